@@ -1,0 +1,18 @@
+use borrow.Author.Needs.{needs}
+use Rattle.rules.specs.WellFormed.{bad-counts}
+use Rattle.device.proofs.well_formed.bad_counts.Statement.{statement}
+use Rattle.device.proofs.well_formed.bad_counts.Tie as tie
+
+cast-result : tie.Need-cast-result
+cast-result c = search needs
+
+sum-requires : tie.Need-sum-requires
+sum-requires c κs = search needs
+
+returns : tie.Need-returns
+unfolding bad-counts
+returns c =
+    rw (← c .sum .ensures)
+
+pub bad-counts-spec : {M : Type 1} → statement M
+bad-counts-spec = tie.close (tie.spec cast-result sum-requires returns)

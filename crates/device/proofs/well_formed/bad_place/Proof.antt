@@ -1,0 +1,12 @@
+use mathlib.Core.Path.{refl}
+use Rattle.rules.specs.WellFormed.{bad-place}
+use Rattle.device.proofs.well_formed.bad_place.Statement.{statement}
+use Rattle.device.proofs.well_formed.bad_place.Tie as tie
+
+returns : tie.Need-returns
+unfolding bad-place
+returns c =
+    refl
+
+pub bad-place-spec : {M : Type 1} → statement M
+bad-place-spec = tie.close (tie.spec returns)

@@ -1,0 +1,41 @@
+-- The paper's numbers and values of each case of the answers (document 01, "Refusal numbers").
+use mathlib.Core.Bool.{Bool, true, false}
+use Prim.Native.Nat.{ℕ}
+use Rattle.rules.specs.Answers.{Answer, refused, answered, Changed}
+use Rattle.device.specs.declared.Refusal.{Refusal}
+use Rattle.device.specs.declared.Refusal.the-variants.{Malformed, NoRegister, AccessKind, ReservedBit, Unsupported, Enabled}
+use Rattle.device.specs.declared.Outcome.{Outcome}
+use Rattle.device.specs.declared.Outcome.the-variants as outcomes
+use Rattle.device.specs.declared.Reading.{Reading}
+use Rattle.device.specs.declared.Reading.the-variants as readings
+use Rattle.device.specs.declared.Line.{Line}
+use Rattle.device.specs.declared.Line.the-variants as levels
+use Rattle.device.specs.declared.Written.{Written}
+
+abbrev pub number : Refusal → ℕ
+number Malformed = 1
+number NoRegister = 2
+number AccessKind = 3
+number ReservedBit = 4
+number Unsupported = 5
+number Enabled = 6
+
+-- 0 of an accepted call, else the refusal's number.
+abbrev pub outcome : Outcome → ℕ
+outcome outcomes.Accepted = 0
+outcome (outcomes.Refused e) = number e
+
+-- A register's value, or a refusal with its number and no value.
+abbrev pub reading : Reading → Answer ℕ
+reading (readings.Value v) = answered v
+reading (readings.Refused e) = refused (number e)
+
+-- Whether the interrupt line is up, or a refusal.
+abbrev pub line : Line → Answer Bool
+line levels.Up = answered true
+line levels.Down = answered false
+line (levels.Refused e) = refused (number e)
+
+-- The number and the device that a call leaves.
+abbrev pub written : Written → Changed
+written w = record { number = outcome (w .outcome); device = w .device }

@@ -1,0 +1,189 @@
+// What an accepted register write does to the capture state and to the FIFO ("Writing CR").
+ghost use mathlib.Core.Path.{_≡_};
+ghost use Prim.Native.Nat.{_+_, _<_, _^_};
+ghost use Rattle.registers.specs.declared.Found.the-variants.{At};
+ghost use Rattle.rules.specs.Queue as queue;
+ghost use Rattle.rules.specs.RegisterCalls as calls;
+use crate::well_formed::is_open;
+use registers::Register;
+use registers::control;
+use rules::Capture;
+use rules::Device;
+use rules::Fifo;
+use rules::Frame;
+use rules::Partial;
+use rules::Registers;
+use rules::Syncs;
+
+// ENABLE 0 to 1.
+fn enabling(s: Capture) -> Capture
+    ensures { λ r. ⌜ r ≡ calls.enabling s ⌝ }
+{
+    let registers = s.registers;
+    let pins = s.pins;
+    let partial = s.partial;
+    Capture {
+        registers,
+        pins,
+        syncs: Syncs {
+            hsync: false,
+            vsync: false,
+        },
+        frame: Frame::Closed,
+        rate: 0,
+        partial,
+    }
+}
+
+// ENABLE 1 to 0.
+fn disabling(s: Capture) -> Capture
+    ensures { λ r. ⌜ r ≡ calls.disabling s ⌝ }
+{
+    let registers = s.registers;
+    let pins = s.pins;
+    let syncs = s.syncs;
+    Capture {
+        registers,
+        pins,
+        syncs,
+        frame: Frame::Closed,
+        rate: 0,
+        partial: Partial { count: 0, bits: 0 },
+    }
+}
+
+fn switch_enable(v: u32, s: Capture) -> Capture
+    ensures { λ r. ⌜ r ≡ calls.switch-enable v s ⌝ }
+{
+    if control::enable(s.registers.cr) {
+        if control::enable(v) {
+            return s;
+        }
+        return disabling(s);
+    }
+    if control::enable(v) {
+        return enabling(s);
+    }
+    s
+}
+
+fn capture_rises(v: u32, s: Capture) -> bool
+    ensures { λ r. ⌜ r ≡ calls.capture-rises v s ⌝ }
+{
+    let frame = s.frame;
+    if control::capture(s.registers.cr) {
+        return false;
+    }
+    if control::capture(v) {
+        return !is_open(frame);
+    }
+    false
+}
+
+fn switch_capture(rises: bool, mut s: Capture) -> Capture
+    ensures { λ r. ⌜ r ≡ calls.switch-capture rises s ⌝ }
+{
+    if rises {
+        s.rate = 0;
+        return s;
+    }
+    s
+}
+
+fn write_control(v: u32, s: Capture) -> Capture
+    ensures { λ r. ⌜ r ≡ calls.write-control v s ⌝ }
+{
+    let mut t = switch_capture(capture_rises(v, s), switch_enable(v, s));
+    t.registers.cr = v;
+    t
+}
+
+// ICR: a 1 clears that bit of RIS.
+fn clear_flags(v: u32, mut r: Registers) -> Registers
+    ensures { λ a. ⌜ a ≡ calls.clear-flags v r ⌝ }
+{
+    let ris = r.ris - (r.ris & v);
+    r.ris = ris;
+    r
+}
+
+fn write_register(register: Register, v: u32, mut s: Capture) -> Capture
+    ensures { λ r. ⌜ r ≡ calls.write-register register v s ⌝ }
+{
+    match register {
+        Register::Control => write_control(v, s),
+        Register::Status => s,
+        Register::RawStatus => s,
+        Register::InterruptEnable => {
+            s.registers.ier = v;
+            s
+        }
+        Register::MaskedStatus => s,
+        Register::InterruptClear => {
+            let r = clear_flags(v, s.registers);
+            s.registers = r;
+            s
+        }
+        Register::WindowStart => {
+            s.registers.cwstrt = v;
+            s
+        }
+        Register::WindowSize => {
+            s.registers.cwsize = v;
+            s
+        }
+    }
+}
+
+// Whether a write is one of CR that takes ENABLE from 1 to 0.
+fn disables(cr: u32, register: Register, v: u32) -> bool
+    ensures { λ r. ⌜ r ≡ calls.disables cr register v ⌝ }
+{
+    match register {
+        Register::Control => {
+            if control::enable(cr) {
+                return !control::enable(v);
+            }
+            false
+        }
+        Register::Status => false,
+        Register::RawStatus => false,
+        Register::InterruptEnable => false,
+        Register::MaskedStatus => false,
+        Register::InterruptClear => false,
+        Register::WindowStart => false,
+        Register::WindowSize => false,
+    }
+}
+
+// The held words and `more` besides are discarded. The caller knows that the count fits.
+pub fn discard(more: u32, mut d: Device) -> Device
+    requires { ⌜ d .counts .discarded + d .fifo .held + more < 2 ^ 32 ⌝ }
+    ensures { λ r. ⌜ r ≡ queue.discard more d ⌝ }
+{
+    let discarded = d.counts.discarded + d.fifo.held + more;
+    let empty = Fifo {
+        slots: [0; 4],
+        held: 0,
+    };
+    d.counts.discarded = discarded;
+    d.fifo = empty;
+    d
+}
+
+// An accepted write, of the device.
+pub fn write_at(d: Device, register: Register, v: u32) -> Device
+    requires { ⌜ d .counts .discarded + d .fifo .held < 2 ^ 32 ⌝ }
+    ensures { λ r. ⌜ r ≡ calls.write-at d (At register) v ⌝ }
+{
+    let s = d.capture;
+    let written = write_register(register, v, s);
+    if disables(d.capture.registers.cr, register, v) {
+        let mut e = discard(0, d);
+        e.capture = written;
+        return e;
+    }
+    let mut e = d;
+    e.capture = written;
+    e
+}

@@ -1,0 +1,117 @@
+// The device: reset, the test for malformed devices, register reads and writes, the interrupt line and re-arming. A device goes in by
+// value and comes back by value. Each public function answers for every device and number, states its whole result as one equation
+// with a definition of the crate `rules`, and has no `requires`; a refused call returns the device as it was.
+ghost use mathlib.Core.Path.{_≡_};
+ghost use Rattle.rules.specs.State as state;
+ghost use Rattle.device.specs.Answers as answers;
+
+mod control_writes;
+mod register_calls;
+mod well_formed;
+
+pub use register_calls::interrupt;
+pub use register_calls::read;
+pub use register_calls::rearm;
+pub use register_calls::write;
+use rules::Capture;
+use rules::Counts;
+use rules::Device;
+use rules::Fifo;
+use rules::Frame;
+use rules::Partial;
+use rules::Pins;
+use rules::Registers;
+use rules::Syncs;
+pub use well_formed::malformed;
+
+// Why a call is refused.
+pub enum Refusal {
+    Malformed,
+    NoRegister,
+    AccessKind,
+    ReservedBit,
+    Unsupported,
+    Enabled,
+}
+
+impl Refusal {
+    // The paper's number.
+    pub fn number(self) -> u32
+        ensures { λ r. ⌜ r ≡ answers.number self ⌝ }
+    {
+        match self {
+            Refusal::Malformed => 1,
+            Refusal::NoRegister => 2,
+            Refusal::AccessKind => 3,
+            Refusal::ReservedBit => 4,
+            Refusal::Unsupported => 5,
+            Refusal::Enabled => 6,
+        }
+    }
+}
+
+// The answer of a call that only changes the device.
+pub enum Outcome {
+    Accepted,
+    Refused(Refusal),
+}
+
+// The answer of a register read.
+pub enum Reading {
+    Value(u32),
+    Refused(Refusal),
+}
+
+// The interrupt line.
+pub enum Line {
+    Up,
+    Down,
+    Refused(Refusal),
+}
+
+// A device after a call, with the answer.
+pub struct Written {
+    pub device: Device,
+    pub outcome: Outcome,
+}
+
+// A device after reset.
+pub fn fresh() -> Device
+    ensures { λ r. ⌜ r ≡ state.fresh ⌝ }
+{
+    let capture = Capture {
+        registers: Registers {
+            cr: 0,
+            ris: 0,
+            ier: 0,
+            cwstrt: 0,
+            cwsize: 0,
+        },
+        pins: Pins {
+            hsync: false,
+            vsync: false,
+            clock: false,
+        },
+        syncs: Syncs {
+            hsync: false,
+            vsync: false,
+        },
+        frame: Frame::Closed,
+        rate: 0,
+        partial: Partial { count: 0, bits: 0 },
+    };
+    Device {
+        capture,
+        fifo: Fifo {
+            slots: [0; 4],
+            held: 0,
+        },
+        place: 0,
+        counts: Counts {
+            samples: 0,
+            completed: 0,
+            landed: 0,
+            discarded: 0,
+        },
+    }
+}

@@ -1,0 +1,228 @@
+// Register reads and writes, the interrupt line and re-arming.
+ghost use mathlib.Core.Bool.{Bool·beq};
+ghost use mathlib.Core.Path.{_≡_};
+ghost use Rattle.registers.specs.declared.Found.the-variants.{At};
+ghost use Rattle.rules.specs.RegisterCalls as calls;
+ghost use Rattle.device.specs.Answers as answers;
+use crate::Line;
+use crate::Outcome;
+use crate::Reading;
+use crate::Refusal;
+use crate::Written;
+use crate::control_writes::write_at;
+use crate::well_formed::malformed;
+use registers::Access;
+use registers::Found;
+use registers::Register;
+use registers::control;
+use rules::Device;
+
+// Whether a pin blanks: it equals its polarity bit.
+pub fn blanks(pin: bool, polarity: bool) -> bool
+    ensures { λ r. ⌜ r ≡ Bool·beq pin polarity ⌝ }
+{
+    pin == polarity
+}
+
+fn when(t: bool, n: u32) -> u32
+    ensures { λ r. ⌜ r ≡ calls.when t n ⌝ }
+{
+    if t {
+        return n;
+    }
+    0
+}
+
+// SR.
+fn status(d: Device) -> u32
+    ensures { λ r. ⌜ r ≡ calls.status d ⌝ }
+{
+    let cr = d.capture.registers.cr;
+    let hsync = when(blanks(d.capture.pins.hsync, control::hspol(cr)), 1);
+    let vsync = when(blanks(d.capture.pins.vsync, control::vspol(cr)), 2);
+    let fne = when(0 < d.fifo.held, 4);
+    hsync + vsync + fne
+}
+
+// What a register reads as.
+fn value(d: Device, register: Register) -> u32
+    ensures { λ r. ⌜ r ≡ calls.value d register ⌝ }
+{
+    match register {
+        Register::Control => d.capture.registers.cr,
+        Register::Status => status(d),
+        Register::RawStatus => d.capture.registers.ris,
+        Register::InterruptEnable => d.capture.registers.ier,
+        Register::MaskedStatus => d.capture.registers.ris & d.capture.registers.ier,
+        Register::InterruptClear => 0,
+        Register::WindowStart => d.capture.registers.cwstrt,
+        Register::WindowSize => d.capture.registers.cwsize,
+    }
+}
+
+fn no_read(access: Access) -> bool
+    ensures { λ r. ⌜ r ≡ calls.no-read access ⌝ }
+{
+    match access {
+        Access::ReadWrite => false,
+        Access::ReadOnly => false,
+        Access::WriteOnly => true,
+    }
+}
+
+fn no_write(access: Access) -> bool
+    ensures { λ r. ⌜ r ≡ calls.no-write access ⌝ }
+{
+    match access {
+        Access::ReadWrite => false,
+        Access::ReadOnly => true,
+        Access::WriteOnly => false,
+    }
+}
+
+// A register read: refusals 1, 2, 3, or the value.
+pub fn read(d: Device, offset: u32) -> Reading
+    ensures { λ r. ⌜ answers.reading r ≡ calls.read d offset ⌝ }
+{
+    if malformed(d) {
+        return Reading::Refused(Refusal::Malformed);
+    }
+    let found = Register::at(offset);
+    let Found::At(register) = found else {
+        return Reading::Refused(Refusal::NoRegister);
+    };
+    if no_read(register.access()) {
+        return Reading::Refused(Refusal::AccessKind);
+    }
+    Reading::Value(value(d, register))
+}
+
+// Refusal 5, of a write to a register.
+fn unsupported_at(register: Register, v: u32) -> bool
+    ensures { λ r. ⌜ r ≡ calls.unsupported-at (At register) v ⌝ }
+{
+    match register {
+        Register::Control => control::unsupported(v),
+        Register::Status => false,
+        Register::RawStatus => false,
+        Register::InterruptEnable => false,
+        Register::MaskedStatus => false,
+        Register::InterruptClear => false,
+        Register::WindowStart => false,
+        Register::WindowSize => false,
+    }
+}
+
+// Whether a CR bit other than 0 and 14 would change.
+fn changes_setup(cr: u32, v: u32) -> bool
+    ensures { λ r. ⌜ r ≡ calls.changes-setup cr v ⌝ }
+{
+    if cr / 2 % 8192 != v / 2 % 8192 {
+        return true;
+    }
+    cr / 32768 % 131072 != v / 32768 % 131072
+}
+
+fn fixed(cr: u32, register: Register, v: u32) -> bool
+    ensures { λ r. ⌜ r ≡ calls.fixed cr register v ⌝ }
+{
+    match register {
+        Register::Control => changes_setup(cr, v),
+        Register::Status => false,
+        Register::RawStatus => false,
+        Register::InterruptEnable => false,
+        Register::MaskedStatus => false,
+        Register::InterruptClear => false,
+        Register::WindowStart => true,
+        Register::WindowSize => true,
+    }
+}
+
+// Refusal 6, of a write to a register.
+fn fixed_at(cr: u32, register: Register, v: u32) -> bool
+    ensures { λ r. ⌜ r ≡ calls.fixed-at cr (At register) v ⌝ }
+{
+    if control::enable(cr) {
+        return fixed(cr, register, v);
+    }
+    false
+}
+
+// A register write: refusals 1 to 6 in order, or its effect.
+pub fn write(d: Device, offset: u32, value: u32) -> Written
+    ensures { λ r. ⌜ answers.written r ≡ calls.write d offset value ⌝ }
+{
+    if malformed(d) {
+        return Written {
+            device: d,
+            outcome: Outcome::Refused(Refusal::Malformed),
+        };
+    }
+    let found = Register::at(offset);
+    let Found::At(register) = found else {
+        return Written {
+            device: d,
+            outcome: Outcome::Refused(Refusal::NoRegister),
+        };
+    };
+    if no_write(register.access()) {
+        return Written {
+            device: d,
+            outcome: Outcome::Refused(Refusal::AccessKind),
+        };
+    }
+    if register.reserved_set(value) {
+        return Written {
+            device: d,
+            outcome: Outcome::Refused(Refusal::ReservedBit),
+        };
+    }
+    if unsupported_at(register, value) {
+        return Written {
+            device: d,
+            outcome: Outcome::Refused(Refusal::Unsupported),
+        };
+    }
+    if fixed_at(d.capture.registers.cr, register, value) {
+        return Written {
+            device: d,
+            outcome: Outcome::Refused(Refusal::Enabled),
+        };
+    }
+    let after = write_at(d, register, value);
+    Written {
+        device: after,
+        outcome: Outcome::Accepted,
+    }
+}
+
+// The interrupt line is up exactly if MIS is not 0. Refusal 1.
+pub fn interrupt(d: Device) -> Line
+    ensures { λ r. ⌜ answers.line r ≡ calls.interrupt d ⌝ }
+{
+    if malformed(d) {
+        return Line::Refused(Refusal::Malformed);
+    }
+    if d.capture.registers.ris & d.capture.registers.ier != 0 {
+        return Line::Up;
+    }
+    Line::Down
+}
+
+// Re-arming: the next word goes to place 0. Refusal 1.
+pub fn rearm(d: Device) -> Written
+    ensures { λ r. ⌜ answers.written r ≡ calls.rearm d ⌝ }
+{
+    if malformed(d) {
+        return Written {
+            device: d,
+            outcome: Outcome::Refused(Refusal::Malformed),
+        };
+    }
+    let mut after = d;
+    after.place = 0;
+    Written {
+        device: after,
+        outcome: Outcome::Accepted,
+    }
+}

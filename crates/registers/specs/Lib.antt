@@ -1,0 +1,4 @@
+pub mod Bits
+pub mod Map
+pub mod Control
+pub mod Window

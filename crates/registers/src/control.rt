@@ -1,0 +1,88 @@
+// The fields of CR.
+ghost use mathlib.Core.Path.{_≡_};
+ghost use Rattle.registers.specs.Control as fields;
+
+pub fn capture(cr: u32) -> bool
+    ensures { λ r. ⌜ r ≡ fields.capture cr ⌝ }
+{
+    cr % 2 == 1
+}
+
+pub fn snapshot(cr: u32) -> bool
+    ensures { λ r. ⌜ r ≡ fields.snapshot cr ⌝ }
+{
+    cr / 2 % 2 == 1
+}
+
+pub fn crop(cr: u32) -> bool
+    ensures { λ r. ⌜ r ≡ fields.crop cr ⌝ }
+{
+    cr / 4 % 2 == 1
+}
+
+pub fn jpeg(cr: u32) -> bool
+    ensures { λ r. ⌜ r ≡ fields.jpeg cr ⌝ }
+{
+    cr / 8 % 2 == 1
+}
+
+pub fn embedded(cr: u32) -> bool
+    ensures { λ r. ⌜ r ≡ fields.embedded cr ⌝ }
+{
+    cr / 16 % 2 == 1
+}
+
+pub fn pckpol(cr: u32) -> bool
+    ensures { λ r. ⌜ r ≡ fields.pckpol cr ⌝ }
+{
+    cr / 32 % 2 == 1
+}
+
+pub fn hspol(cr: u32) -> bool
+    ensures { λ r. ⌜ r ≡ fields.hspol cr ⌝ }
+{
+    cr / 64 % 2 == 1
+}
+
+pub fn vspol(cr: u32) -> bool
+    ensures { λ r. ⌜ r ≡ fields.vspol cr ⌝ }
+{
+    cr / 128 % 2 == 1
+}
+
+pub fn fcrc(cr: u32) -> u32
+    ensures { λ r. ⌜ r ≡ fields.fcrc cr ⌝ }
+{
+    cr / 256 % 4
+}
+
+pub fn edm(cr: u32) -> u32
+    ensures { λ r. ⌜ r ≡ fields.edm cr ⌝ }
+{
+    cr / 1024 % 4
+}
+
+pub fn enable(cr: u32) -> bool
+    ensures { λ r. ⌜ r ≡ fields.enable cr ⌝ }
+{
+    cr / 16384 % 2 == 1
+}
+
+// Whether the value is one that CR refuses: JPEG, embedded codes, FCRC 3, or CAPTURE without ENABLE.
+pub fn unsupported(cr: u32) -> bool
+    ensures { λ r. ⌜ r ≡ fields.unsupported cr ⌝ }
+{
+    if jpeg(cr) {
+        return true;
+    }
+    if embedded(cr) {
+        return true;
+    }
+    if fcrc(cr) == 3 {
+        return true;
+    }
+    if capture(cr) {
+        return !enable(cr);
+    }
+    false
+}

@@ -1,0 +1,144 @@
+// The register map of the camera interface: the registers with their offsets, access kinds and reserved bits, and the fields of CR,
+// CWSTRT and CWSIZE. Each function answers for every number, and its contract gives the answer by a definition of specs/.
+ghost use mathlib.Core.Path.{_≡_};
+ghost use Rattle.registers.specs.Map.{register-at, access as accessOf, reserved-set, reserved as reservedOf, mask};
+
+pub mod control;
+pub mod window;
+
+// The kinds of register.
+pub enum Register {
+    Control,
+    Status,
+    RawStatus,
+    InterruptEnable,
+    MaskedStatus,
+    InterruptClear,
+    WindowStart,
+    WindowSize,
+}
+
+// How a register may be accessed.
+pub enum Access {
+    ReadWrite,
+    ReadOnly,
+    WriteOnly,
+}
+
+// What stands at an offset.
+pub enum Found {
+    At(Register),
+    Nothing,
+}
+
+impl Register {
+    pub const CR: u32 = 0x00;
+
+    pub const SR: u32 = 0x04;
+
+    pub const RIS: u32 = 0x08;
+
+    pub const IER: u32 = 0x0C;
+
+    pub const MIS: u32 = 0x10;
+
+    pub const ICR: u32 = 0x14;
+
+    pub const CWSTRT: u32 = 0x20;
+
+    pub const CWSIZE: u32 = 0x24;
+
+    // The register at an offset, if there is one.
+    pub fn at(offset: u32) -> Found
+        ensures { λ r. ⌜ r ≡ register-at offset ⌝ }
+    {
+        if offset == Register::CR {
+            return Found::At(Register::Control);
+        }
+        if offset == Register::SR {
+            return Found::At(Register::Status);
+        }
+        if offset == Register::RIS {
+            return Found::At(Register::RawStatus);
+        }
+        if offset == Register::IER {
+            return Found::At(Register::InterruptEnable);
+        }
+        if offset == Register::MIS {
+            return Found::At(Register::MaskedStatus);
+        }
+        if offset == Register::ICR {
+            return Found::At(Register::InterruptClear);
+        }
+        if offset == Register::CWSTRT {
+            return Found::At(Register::WindowStart);
+        }
+        if offset == Register::CWSIZE {
+            return Found::At(Register::WindowSize);
+        }
+        Found::Nothing
+    }
+
+    // How the register may be accessed.
+    pub fn access(self) -> Access
+        ensures { λ r. ⌜ r ≡ accessOf self ⌝ }
+    {
+        match self {
+            Register::Control => Access::ReadWrite,
+            Register::Status => Access::ReadOnly,
+            Register::RawStatus => Access::ReadOnly,
+            Register::InterruptEnable => Access::ReadWrite,
+            Register::MaskedStatus => Access::ReadOnly,
+            Register::InterruptClear => Access::WriteOnly,
+            Register::WindowStart => Access::ReadWrite,
+            Register::WindowSize => Access::ReadWrite,
+        }
+    }
+
+    // The reserved bits, as a mask.
+    pub fn reserved(self) -> u32
+        ensures { λ r. ⌜ r ≡ mask (reservedOf self) ⌝ }
+    {
+        match self {
+            Register::Control => 0xFFFF_B000,
+            Register::Status => 0xFFFF_FFF8,
+            Register::RawStatus => 0xFFFF_FFE0,
+            Register::InterruptEnable => 0xFFFF_FFE0,
+            Register::MaskedStatus => 0xFFFF_FFE0,
+            Register::InterruptClear => 0xFFFF_FFE0,
+            Register::WindowStart => 0xE000_C000,
+            Register::WindowSize => 0xC000_C000,
+        }
+    }
+
+    // Whether a reserved bit is 1 in a value.
+    pub fn reserved_set(self, value: u32) -> bool
+        ensures { λ r. ⌜ r ≡ reserved-set self value ⌝ }
+    {
+        match self {
+            Register::Control => {
+                if value / 4096 % 4 != 0 {
+                    return true;
+                }
+                value / 32768 % 131072 != 0
+            }
+            Register::Status => value / 8 % 536870912 != 0,
+            Register::RawStatus => value / 32 % 134217728 != 0,
+            Register::InterruptEnable => value / 32 % 134217728 != 0,
+            Register::MaskedStatus => value / 32 % 134217728 != 0,
+            Register::InterruptClear => value / 32 % 134217728 != 0,
+            Register::WindowStart => {
+                if value / 16384 % 4 != 0 {
+                    return true;
+                }
+                value / 536870912 % 8 != 0
+            }
+            Register::WindowSize => {
+                if value / 16384 % 4 != 0 {
+                    return true;
+                }
+                value / 1073741824 % 4 != 0
+            }
+        }
+    }
+}

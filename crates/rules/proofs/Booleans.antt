@@ -1,0 +1,66 @@
+-- What the value of a test joined by `||` or `&&` tells, and a definition by `cond` taken apart. Assumes nothing.
+use mathlib.Core.Bool.{Bool, true, false, cond, not, _&&_, _||_, true≢false, false≢true}
+use mathlib.Core.List.{List, [], _∷_}
+use mathlib.Core.Path.{_≡_, refl}
+use Prim.Native.Nat.{ℕ, _≤_, zero-le}
+use native.Mathlib.Nat.{le-refl}
+use Rattle.rules.specs.WellFormed.{any}
+
+pub or-false : (a b : Bool) → a || b ≡ false → (a ≡ false) × (b ≡ false)
+or-false true b e = absurd (true≢false e)
+or-false false b e = (refl, e)
+
+pub both-false : (a b : Bool) → a ≡ false → b ≡ false → a || b ≡ false
+both-false true b e f = absurd (true≢false e)
+both-false false b e f = f
+
+pub or-unit : (b : Bool) → b || false ≡ b
+or-unit true = refl
+or-unit false = refl
+
+pub or-true : (b : Bool) → b || true ≡ true
+or-true true = refl
+or-true false = refl
+
+pub and-true : (a b : Bool) → a && b ≡ true → (a ≡ true) × (b ≡ true)
+and-true true b e = (refl, e)
+and-true false b e = absurd (false≢true e)
+
+-- `a && b` is false: from a, not b.
+pub and-false : (a b : Bool) → a && b ≡ false → a ≡ true → b ≡ false
+and-false true b e h = e
+and-false false b e h = absurd (false≢true h)
+
+pub imp-and-false : (a b : Bool) → (a ≡ true → b ≡ false) → a && b ≡ false
+imp-and-false true b h = h refl
+imp-and-false false b h = refl
+
+pub not-is-false : (a : Bool) → a ≡ true → not a ≡ false
+not-is-false true e = refl
+not-is-false false e = absurd (false≢true e)
+
+pub not-is-true : (a : Bool) → a ≡ false → not a ≡ true
+not-is-true true e = absurd (true≢false e)
+not-is-true false e = refl
+
+-- What holds of both arms, each under its test, holds of the choice.
+pub by-cond {ℓ} : {A : Type ℓ} (P : A → Type 0) (b : Bool) (x y : A) → (b ≡ true → P x) → (b ≡ false → P y) → P (cond b x y)
+by-cond P true x y f g = f refl
+by-cond P false x y f g = g refl
+
+-- None of some tests holds.
+abbrev pub None : List Bool → Type 0
+None [] = Unit {0}
+None (t ∷ ts) = (t ≡ false) × None ts
+
+pub none : (ts : List Bool) → any ts ≡ false → None ts
+none [] e = tt
+none (t ∷ ts) e = let (h, rest) = or-false t (any ts) e in (h, none ts rest)
+
+pub none-any : (ts : List Bool) → None ts → any ts ≡ false
+none-any [] n = refl
+none-any (t ∷ ts) n = both-false t (any ts) (n .0) (none-any ts (n .1))
+
+pub cond-le : (b : Bool) (n : ℕ) → cond b n 0 ≤ n
+cond-le true n = le-refl n
+cond-le false n = zero-le

@@ -1,0 +1,38 @@
+-- What calls answer, and how a refusal is found (document 01, "Refusal numbers").
+use mathlib.Core.Bool.{Bool, cond}
+use mathlib.Core.List.{List, [], _∷_}
+use Prim.Native.Nat.{ℕ}
+use lib.Dec.{eqb}
+use Rattle.rules.specs.declared.Device.{Device}
+
+-- A refusal number and when it is given.
+pub record Test : Type 0 where
+  pub fails : Bool
+  pub number : ℕ
+
+abbrev pub _⇒_ : Bool → ℕ → Test
+fails ⇒ number = record { fails = fails; number = number }
+
+infix 68 _⇒_
+-- The number of the first test that fails, from the top; 0 where none does: the call is accepted.
+abbrev pub first : List Test → ℕ
+first [] = 0
+first (t ∷ ts) = cond (t .fails) (t .number) (first ts)
+
+-- A call that answers a value: a refusal returns its number and no value.
+pub data Answer (A : Type 0) : Type 0 where
+  refused : ℕ → Answer A
+  answered : A → Answer A
+
+-- The answer from the refusal number (0: none) and the value of an accepted call.
+abbrev pub answer : {A : Type 0} → ℕ → A → Answer A
+answer {A} number value = cond (eqb number 0) (answered value) (refused number)
+
+-- A call that changes the device: the refusal number, 0 where the call is accepted, and the device it leaves.
+pub record Changed : Type 0 where
+  pub number : ℕ
+  pub device : Device
+
+-- A refused call leaves the device as it was.
+abbrev pub change : ℕ → Device → Device → Changed
+change number d d′ = record { number = number; device = cond (eqb number 0) d′ d }

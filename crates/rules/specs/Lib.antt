@@ -1,0 +1,7 @@
+pub mod State
+pub mod Capture
+pub mod Queue
+pub mod Answers
+pub mod WellFormed
+pub mod RegisterCalls
+pub mod Run

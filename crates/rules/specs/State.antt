@@ -1,0 +1,112 @@
+-- Reset (document 01, "Registers"), and a state with one of its parts changed.
+use mathlib.Core.Bool.{Bool, false, cond}
+use Prim.Native.Nat.{ℕ, _+_, _-_, _^_}
+use lib.ListN.{replicate}
+use Rattle.registers.specs.Bits.{bit}
+use Rattle.rules.specs.declared.Registers.{Registers}
+use Rattle.rules.specs.declared.Pins.{Pins}
+use Rattle.rules.specs.declared.Syncs.{Syncs}
+use Rattle.rules.specs.declared.Scan.{Scan}
+use Rattle.rules.specs.declared.Frame.{Frame}
+use Rattle.rules.specs.declared.Frame.the-variants.{Closed}
+use Rattle.rules.specs.declared.Partial.{Partial}
+use Rattle.rules.specs.declared.Capture.{Capture}
+use Rattle.rules.specs.declared.Fifo.{Fifo}
+use Rattle.rules.specs.declared.Counts.{Counts}
+use Rattle.rules.specs.declared.Device.{Device}
+
+-- How many words the FIFO holds at most (the paper decides; 004, 32.3.10 has 8).
+abbrev pub depth : ℕ
+depth = 4
+
+-- Syncs that are both not blanking, no partial word, and a FIFO that holds nothing.
+abbrev pub not-blanking : Syncs
+not-blanking = record { hsync = false; vsync = false }
+
+abbrev pub no-partial : Partial
+no-partial = record { count = 0; bits = 0 }
+
+abbrev pub empty : Fifo
+empty = record { slots = replicate depth 0; held = 0 }
+
+-- Reset: all registers 0, pins remembered as 0, syncs as not blanking, no frame open, all counts and places 0.
+unfoldable pub fresh : Device
+fresh =
+    record {
+      capture =
+          record {
+            registers = record { cr = 0; ris = 0; ier = 0; cwstrt = 0; cwsize = 0 };
+            pins = record { hsync = false; vsync = false; clock = false };
+            syncs = not-blanking;
+            frame = Closed;
+            rate = 0;
+            partial = no-partial;
+          };
+      fifo = empty;
+      place = 0;
+      counts = record { samples = 0; completed = 0; landed = 0; discarded = 0 };
+    }
+
+-- Bit k of x made 1; made 0.
+unfoldable pub raised : ℕ → ℕ → ℕ
+raised k x = cond (bit k x) x (x + 2 ^ k)
+
+unfoldable pub lowered : ℕ → ℕ → ℕ
+lowered k x = cond (bit k x) (x - 2 ^ k) x
+
+-- The registers with one of them changed.
+unfoldable pub with-cr : ℕ → Registers → Registers
+with-cr x r = record { cr = x; ris = r .ris; ier = r .ier; cwstrt = r .cwstrt; cwsize = r .cwsize }
+
+unfoldable pub with-ris : ℕ → Registers → Registers
+with-ris x r = record { cr = r .cr; ris = x; ier = r .ier; cwstrt = r .cwstrt; cwsize = r .cwsize }
+
+unfoldable pub with-ier : ℕ → Registers → Registers
+with-ier x r = record { cr = r .cr; ris = r .ris; ier = x; cwstrt = r .cwstrt; cwsize = r .cwsize }
+
+unfoldable pub with-cwstrt : ℕ → Registers → Registers
+with-cwstrt x r = record { cr = r .cr; ris = r .ris; ier = r .ier; cwstrt = x; cwsize = r .cwsize }
+
+unfoldable pub with-cwsize : ℕ → Registers → Registers
+with-cwsize x r = record { cr = r .cr; ris = r .ris; ier = r .ier; cwstrt = r .cwstrt; cwsize = x }
+
+-- The capture state with one part changed.
+unfoldable pub with-registers : Registers → Capture → Capture
+with-registers r s =
+    record { registers = r; pins = s .pins; syncs = s .syncs; frame = s .frame; rate = s .rate; partial = s .partial }
+
+unfoldable pub with-pins : Pins → Capture → Capture
+with-pins p s =
+    record { registers = s .registers; pins = p; syncs = s .syncs; frame = s .frame; rate = s .rate; partial = s .partial }
+
+unfoldable pub with-syncs : Syncs → Capture → Capture
+with-syncs y s =
+    record { registers = s .registers; pins = s .pins; syncs = y; frame = s .frame; rate = s .rate; partial = s .partial }
+
+unfoldable pub with-frame : Frame → Capture → Capture
+with-frame f s =
+    record { registers = s .registers; pins = s .pins; syncs = s .syncs; frame = f; rate = s .rate; partial = s .partial }
+
+unfoldable pub with-rate : ℕ → Capture → Capture
+with-rate n s =
+    record { registers = s .registers; pins = s .pins; syncs = s .syncs; frame = s .frame; rate = n; partial = s .partial }
+
+unfoldable pub with-partial : Partial → Capture → Capture
+with-partial p s =
+    record { registers = s .registers; pins = s .pins; syncs = s .syncs; frame = s .frame; rate = s .rate; partial = p }
+
+-- A flag of RIS raised (bits 0 FRAME, 1 OVR, 2 ERR, 3 VSYNC, 4 LINE).
+unfoldable pub raise : ℕ → Capture → Capture
+raise flag s = with-registers (with-ris (raised flag (s .registers .ris)) (s .registers)) s
+
+-- CAPTURE becomes 0.
+unfoldable pub clear-capture : Capture → Capture
+clear-capture s = with-registers (with-cr (lowered 0 (s .registers .cr)) (s .registers)) s
+
+-- The frame closed, and with it the partial word dropped.
+unfoldable pub close-frame : Capture → Capture
+close-frame s = with-partial no-partial (with-frame Closed s)
+
+-- The device with its capture state changed.
+unfoldable pub with-capture : Capture → Device → Device
+with-capture s d = record { capture = s; fifo = d .fifo; place = d .place; counts = d .counts }

@@ -1,0 +1,74 @@
+// The state of the camera interface, as plain data. What the calls make of it is defined in specs/, in the paper's order and words;
+// proofs/ has the laws of those definitions and the bench sheet's cases. There is no code here: the functions stand in the crates above.
+
+// The registers that hold a value of their own. SR, MIS and ICR have none.
+pub struct Registers {
+    pub cr: u32,
+    pub ris: u32,
+    pub ier: u32,
+    pub cwstrt: u32,
+    pub cwsize: u32,
+}
+
+// The pins' levels at the last sample.
+pub struct Pins {
+    pub hsync: bool,
+    pub vsync: bool,
+    pub clock: bool,
+}
+
+// Whether each sync blanks.
+pub struct Syncs {
+    pub hsync: bool,
+    pub vsync: bool,
+}
+
+// An open frame: whether it is one of those taken, the lines begun in it, and the pixels of the last line.
+pub struct Scan {
+    pub taken: bool,
+    pub lines: u32,
+    pub pixels: u32,
+}
+
+pub enum Frame {
+    Closed,
+    Open(Scan),
+}
+
+// The partial word: how many data it has, and their bits. Both are 0 where there is none.
+pub struct Partial {
+    pub count: u32,
+    pub bits: u32,
+}
+
+// What the rules 2 to 8 read and change. `syncs` is whether each sync blanked at the last working edge; `rate` is the rate counter.
+pub struct Capture {
+    pub registers: Registers,
+    pub pins: Pins,
+    pub syncs: Syncs,
+    pub frame: Frame,
+    pub rate: u32,
+    pub partial: Partial,
+}
+
+// The FIFO: the held words, oldest first, in the first slots.
+pub struct Fifo {
+    pub slots: [u32; 4],
+    pub held: u32,
+}
+
+// Counts since reset.
+pub struct Counts {
+    pub samples: u32,
+    pub completed: u32,
+    pub landed: u32,
+    pub discarded: u32,
+}
+
+// The device. `place` is the number of the next word to land, since the last re-arming.
+pub struct Device {
+    pub capture: Capture,
+    pub fifo: Fifo,
+    pub place: u32,
+    pub counts: Counts,
+}

@@ -1,0 +1,35 @@
+#!/usr/bin/env bash
+# The sources are in the formatter's layout, no public function that a user may call has a `requires`, and no proof has a hole.
+set -u
+cd "$(dirname "$0")/.." || exit 2
+bad=0
+say() {
+    echo "$*"
+    bad=1
+}
+
+rt fmt --check >/dev/null 2>&1 || say "rt fmt would change a file: rt fmt --check tells which"
+
+# What is reachable from outside: lib.rt and main.rt of each crate, and the modules that they declare `pub mod` or pass on by `pub use`.
+checked=0
+for lib in crates/*/src/lib.rt; do
+    folder=$(dirname "$lib")
+    files=$lib
+    for module in $(sed -n 's/^pub mod \([a-z_]*\);.*/\1/p; s/^pub use \([a-z_]*\)::.*/\1/p' "$lib" | sort -u); do
+        [ -f "$folder/$module.rt" ] && files="$files $folder/$module.rt"
+    done
+    for file in $files; do
+        checked=$((checked + 1))
+        awk '
+            /^[ ]*pub (extern "C" )?fn / { open = 1; line = FILENAME ":" FNR ": " $0 }
+            open && /^[ ]*requires/ { print line; open = 0 }
+            /^[ ]*\{[ ]*$/ { open = 0 }
+        ' "$file" | grep . && say "a public function has a requires"
+    done
+done
+
+holes=$(grep -rnE '(^|[^-A-Za-z])\?[[:space:]]*$' --include='*.antt' crates)
+[ -z "$holes" ] || say "a proof has a hole: $holes"
+
+echo "layout: $checked source files reachable from outside, $(find crates -name '*.antt' | wc -l) files of definitions and proofs"
+exit $bad
