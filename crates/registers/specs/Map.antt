@@ -1,6 +1,6 @@
 -- The register map: which registers there are, where, how they may be accessed, and which of their bits are reserved
 -- (document 01, "Registers"; 004, 32.5 and table 271).
-use mathlib.Core.Bool.{Bool, true, false, cond, not, _||_}
+use mathlib.Core.Bool.{Bool, false, cond, not, _||_}
 use mathlib.Core.List.{List, [], _∷_}
 use Prim.Native.Nat.{ℕ, _+_, _*_, _-_, _^_}
 use lib.Dec.{eqb}

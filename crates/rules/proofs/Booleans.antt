@@ -1,7 +1,7 @@
 -- What the value of a test joined by `||` or `&&` tells, and a definition by `cond` taken apart. Assumes nothing.
 use mathlib.Core.Bool.{Bool, true, false, cond, not, _&&_, _||_, true≢false, false≢true}
 use mathlib.Core.List.{List, [], _∷_}
-use mathlib.Core.Path.{_≡_, refl}
+use mathlib.Core.Path.{_≡_, refl, sym, _∙_}
 use Prim.Native.Nat.{ℕ, _≤_, zero-le}
 use native.Mathlib.Nat.{le-refl}
 use Rattle.rules.specs.WellFormed.{any}
@@ -31,6 +31,10 @@ pub and-false : (a b : Bool) → a && b ≡ false → a ≡ true → b ≡ false
 and-false true b e h = e
 and-false false b e h = absurd (false≢true h)
 
+pub and-false-left : (a b : Bool) → a && b ≡ false → b ≡ true → a ≡ false
+and-false-left true b e h = absurd (true≢false (sym h ∙ e))
+and-false-left false b e h = refl
+
 pub imp-and-false : (a b : Bool) → (a ≡ true → b ≡ false) → a && b ≡ false
 imp-and-false true b h = h refl
 imp-and-false false b h = refl
@@ -47,6 +51,11 @@ not-is-true false e = refl
 pub by-cond {ℓ} : {A : Type ℓ} (P : A → Type 0) (b : Bool) (x y : A) → (b ≡ true → P x) → (b ≡ false → P y) → P (cond b x y)
 by-cond P true x y f g = f refl
 by-cond P false x y f g = g refl
+
+-- The same where neither arm needs its test.
+pub either {ℓ} : {A : Type ℓ} {x y : A} (P : A → Type 0) (b : Bool) → P x → P y → P (cond b x y)
+either P true f g = f
+either P false f g = g
 
 -- None of some tests holds.
 abbrev pub None : List Bool → Type 0

@@ -1,20 +1,18 @@
 -- A device that is not malformed, as facts, and the way back. The facts are in two parts, as the rules are: the capture state, given a
 -- bound on its lines and pixels, and the queue around it. Assumes nothing.
-use mathlib.Core.Bool.{Bool, true, false, not, _&&_, _||_}
+use mathlib.Core.Bool.{Bool, true, false, not}
 use mathlib.Core.List.{List, [], _∷_}
-use mathlib.Core.Path.{_≡_, refl, sym}
-use Prim.Native.Nat.{ℕ, _+_, _*_, _/_, _^_, _≤_, _<_}
+use mathlib.Core.Path.{_≡_}
+use Prim.Native.Nat.{ℕ, _+_, _≤_, _<_}
 use native.Mathlib.Omega.{arith}
-use lib.Dec.{eqb, ltb, leb}
+use lib.Dec.{ltb}
 use lib.ListN.{drop}
-use borrow.Author.Tests.{ltb-true, ltb-false, leb-true, leb-false, eqb-true, le-ltb, lt-leb, eq-eqb, lt-ltb, not-true, not-false}
+use borrow.Author.Tests.{ltb-true, ltb-false, leb-false, eqb-true, le-ltb, lt-leb, eq-eqb, lt-ltb, not-true, not-false}
 use Rattle.registers.specs.Control.{enable}
-use Rattle.rules.specs.declared.Registers.{Registers}
 use Rattle.rules.specs.declared.Capture.{Capture}
-use Rattle.rules.specs.declared.Fifo.{Fifo}
 use Rattle.rules.specs.declared.Device.{Device}
 use Rattle.rules.specs.State.{depth}
-use Rattle.rules.specs.Capture.{width, per-word, rate-period}
+use Rattle.rules.specs.Capture.{per-word, rate-period}
 use Rattle.rules.specs.WellFormed.{all-zero, is-open, is-taken, lines, pixels, bad-fifo, unused-bits, full-partial, excluded, bad-flags, active-disabled, partial-outside, bad-rate, above-samples, bad-place, bad-counts, malformed, any, clauses}
 use Rattle.rules.proofs.Booleans.{or-false, both-false, and-false, imp-and-false, not-is-false, not-is-true, None, none, none-any}
 
@@ -106,31 +104,11 @@ well-formed d w =
     let q = w .queue in
     let off : enable (d .capture .registers .cr) ≡ false → None (idles d) =
     λ x. (c .idle x .0, (zero-test _ (q .idle x), (zero-test _ (c .idle x .1), (zero-test _ (c .idle x .2), tt)))) in
-    none-any (clauses d) (
-      both-false _ _ (le-ltb _ _ (q .held)) (not-is-false _ (q .clear)),
-      (
-        c .unused,
-        (
-          lt-leb _ _ (c .short),
-          (
-            c .allowed,
-            (
-              both-false _ _ (le-ltb _ _ (c .ris)) (le-ltb _ _ (c .ier)),
-              (
-                imp-and-false _ _ (λ x. none-any (idles d) (off (not-true _ x))),
-                (
-                  imp-and-false _ _ (λ x. not-is-false _ (c .inside (ltb-true 0 _ x))),
-                  (
-                    lt-leb _ _ (c .rate),
-                    (
-                      none-any (above d) (le-ltb _ _ (c .lines), (le-ltb _ _ (c .pixels), (le-ltb _ _ (q .completed), tt))),
-                      (le-ltb _ _ (q .place), (not-is-false _ (eq-eqb _ _ (q .equation)), tt)),
-                    ),
-                  ),
-                ),
-              ),
-            ),
-          ),
-        ),
-      ),
-    )
+    let counted = none-any (above d) (le-ltb _ _ (c .lines), (le-ltb _ _ (c .pixels), (le-ltb _ _ (q .completed), tt))) in
+    let last : None (drop 8 (clauses d)) = (counted, (le-ltb _ _ (q .place), (not-is-false _ (eq-eqb _ _ (q .equation)), tt))) in
+    let idle = imp-and-false _ _ (λ x. none-any (idles d) (off (not-true _ x))) in
+    let inside = imp-and-false _ _ (λ x. not-is-false _ (c .inside (ltb-true 0 _ x))) in
+    let middle : None (drop 5 (clauses d)) = (idle, (inside, (lt-leb _ _ (c .rate), last))) in
+    let flags = both-false _ _ (le-ltb _ _ (c .ris)) (le-ltb _ _ (c .ier)) in
+    let fifo = both-false _ _ (le-ltb _ _ (q .held)) (not-is-false _ (q .clear)) in
+    none-any (clauses d) (fifo, (c .unused, (lt-leb _ _ (c .short), (c .allowed, (flags, middle)))))

@@ -1,6 +1,6 @@
 -- Rules 2 to 8 of one sample (document 01, "One sample"), over the capture state: no FIFO, no memory and no grant. A sample answers
 -- no word or a full word. Each rule is a definition of its own, in the paper's order; the manual's section stands beside its number.
-use mathlib.Core.Bool.{Bool, true, false, cond, not, _&&_, _||_, Bool·beq}
+use mathlib.Core.Bool.{Bool, cond, not, _&&_, _||_, Bool·beq}
 use mathlib.Core.Option.{Option, none, some}
 use Prim.Native.Nat.{ℕ, _+_, _-_, _*_, _%_, _^_}
 use lib.Dec.{eqb, ltb, leb}

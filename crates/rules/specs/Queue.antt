@@ -1,5 +1,5 @@
 -- Rules 1 and 9 of one sample (document 01, "One sample" and "Memory and counts"): the FIFO and the frame buffer around the capture rules.
-use mathlib.Core.Bool.{Bool, true, false, cond, not, _&&_}
+use mathlib.Core.Bool.{Bool, cond, _&&_}
 use mathlib.Core.List.{List, [], _∷_, _++_}
 use mathlib.Core.Option.{Option, none, some}
 use Prim.Native.Nat.{ℕ, _+_, _-_, _*_, _/_, _%_}
@@ -8,7 +8,6 @@ use lib.ListN.{length, take, drop, set, getD}
 use Rattle.registers.specs.Control.{snapshot, enable}
 use Rattle.rules.specs.declared.Capture.{Capture}
 use Rattle.rules.specs.declared.Fifo.{Fifo}
-use Rattle.rules.specs.declared.Counts.{Counts}
 use Rattle.rules.specs.declared.Device.{Device}
 use Rattle.rules.specs.State.{depth, empty, raise, clear-capture, close-frame, with-capture}
 use Rattle.rules.specs.Capture.{bus-grant}

@@ -1,7 +1,7 @@
 -- Register reads and writes, the interrupt line and re-arming (document 01, "Registers", "Writing CR" and "Refusal numbers").
 use mathlib.Core.Bool.{Bool, true, false, cond, not, _&&_, _||_, Bool·beq}
 use mathlib.Core.List.{List, [], _∷_}
-use Prim.Native.Nat.{ℕ, _+_, _-_, _*_, _/_, _%_}
+use Prim.Native.Nat.{ℕ, _+_, _-_}
 use lib.Bits.{bitAnd}
 use lib.Dec.{eqb, ltb}
 use Rattle.registers.specs.Bits.{field}
@@ -17,7 +17,7 @@ use Rattle.rules.specs.declared.Frame.the-variants.{Closed}
 use Rattle.rules.specs.declared.Registers.{Registers}
 use Rattle.rules.specs.declared.Capture.{Capture}
 use Rattle.rules.specs.declared.Device.{Device}
-use Rattle.rules.specs.State.{not-blanking, no-partial, close-frame, with-cr, with-ris, with-ier, with-cwstrt, with-cwsize, with-registers, with-syncs, with-frame, with-rate, with-capture}
+use Rattle.rules.specs.State.{not-blanking, close-frame, with-cr, with-ris, with-ier, with-cwstrt, with-cwsize, with-registers, with-syncs, with-frame, with-rate, with-capture}
 use Rattle.rules.specs.Queue.{discard}
 use Rattle.rules.specs.Answers.{Test, _⇒_, first, Answer, answer, Changed, change}
 use Rattle.rules.specs.WellFormed.{malformed, is-open}

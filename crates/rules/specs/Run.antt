@@ -1,5 +1,5 @@
 -- One sample whole, and a run (document 01, "One sample", "Memory and counts" and "Refusal numbers").
-use mathlib.Core.Bool.{Bool, true, false, cond, not, _||_}
+use mathlib.Core.Bool.{Bool, false, cond, _||_}
 use mathlib.Core.List.{List, [], _∷_, _++_}
 use mathlib.Core.Option.{Option, none, some}
 use Prim.Native.Nat.{ℕ, _+_, _^_}
@@ -7,8 +7,8 @@ use lib.Dec.{eqb, ltb, leb}
 use lib.ListN.{length, take, drop}
 use Rattle.rules.specs.declared.Device.{Device}
 use Rattle.rules.specs.State.{with-capture}
-use Rattle.rules.specs.Capture.{Captured, capture-sample}
-use Rattle.rules.specs.Queue.{Granted, grant, Packed, Completed, complete}
+use Rattle.rules.specs.Capture.{capture-sample}
+use Rattle.rules.specs.Queue.{grant, Packed, Completed, complete}
 use Rattle.rules.specs.Answers.{_⇒_, first, Answer, answer}
 use Rattle.rules.specs.WellFormed.{malformed}
 

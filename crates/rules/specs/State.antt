@@ -1,18 +1,16 @@
 -- Reset (document 01, "Registers"), and a state with one of its parts changed.
-use mathlib.Core.Bool.{Bool, false, cond}
+use mathlib.Core.Bool.{false, cond}
 use Prim.Native.Nat.{ℕ, _+_, _-_, _^_}
 use lib.ListN.{replicate}
 use Rattle.registers.specs.Bits.{bit}
 use Rattle.rules.specs.declared.Registers.{Registers}
 use Rattle.rules.specs.declared.Pins.{Pins}
 use Rattle.rules.specs.declared.Syncs.{Syncs}
-use Rattle.rules.specs.declared.Scan.{Scan}
 use Rattle.rules.specs.declared.Frame.{Frame}
 use Rattle.rules.specs.declared.Frame.the-variants.{Closed}
 use Rattle.rules.specs.declared.Partial.{Partial}
 use Rattle.rules.specs.declared.Capture.{Capture}
 use Rattle.rules.specs.declared.Fifo.{Fifo}
-use Rattle.rules.specs.declared.Counts.{Counts}
 use Rattle.rules.specs.declared.Device.{Device}
 
 -- How many words the FIFO holds at most (the paper decides; 004, 32.3.10 has 8).

@@ -1,5 +1,5 @@
 -- Malformed devices (document 01, "Malformed means one of"), clause by clause in the paper's order. The list is closed.
-use mathlib.Core.Bool.{Bool, true, false, cond, not, _&&_, _||_}
+use mathlib.Core.Bool.{Bool, true, false, not, _&&_, _||_}
 use mathlib.Core.List.{List, [], _∷_}
 use Prim.Native.Nat.{ℕ, _+_, _*_, _/_, _^_}
 use lib.Dec.{eqb, ltb, leb}

@@ -1,0 +1,114 @@
+-- Register writes and re-arming keep a well-formed device well-formed.
+-- The idea: an accepted write has passed refusals 4 to 6, and these are what well-formedness asks of the register. Assumes nothing.
+use mathlib.Core.Bool.{false, not, _&&_}
+use mathlib.Core.List.{[], _∷_}
+use mathlib.Core.Path.{_≡_, refl, sym, _∙_}
+use Prim.Native.Nat.{ℕ, _^_, _<_}
+use native.Mathlib.Nat.{sub-le, le-trans}
+use native.Mathlib.Omega.{arith}
+use lib.Dec.{eqb}
+use borrow.Author.Tests.{eqb-true, not-false}
+use Rattle.registers.specs.Bits.{field}
+use Rattle.registers.specs.Control.{enable}
+use Rattle.registers.specs.Map.{reserved-set, register-at}
+use Rattle.registers.specs.declared.Register.the-variants.{Control, Status, RawStatus, InterruptEnable, MaskedStatus, InterruptClear, WindowStart, WindowSize}
+use Rattle.registers.specs.declared.Found.{Found}
+use Rattle.registers.specs.declared.Found.the-variants.{At, Nothing}
+use Rattle.rules.specs.declared.Capture.{Capture}
+use Rattle.rules.specs.declared.Device.{Device}
+use Rattle.rules.specs.State.{with-cr, with-ris, with-ier, with-cwstrt, with-cwsize, with-registers, with-capture}
+use Rattle.rules.specs.Queue.{discard}
+use Rattle.rules.specs.Answers.{_⇒_, first}
+use Rattle.rules.specs.WellFormed.{malformed, excluded}
+use Rattle.rules.specs.RegisterCalls.{reserved-at, unsupported-at, fixed-at, register-tests, write-refusal, write-control, clear-flags, write-register, write-at, write, rearmed, rearm}
+use Rattle.rules.proofs.Booleans.{and-false-left, not-is-true, by-cond, either}
+use Rattle.rules.proofs.WellFormed.{CaptureOk, WellFormed, facts, well-formed}
+use Rattle.laws.proofs.RegisterValues.{allowed, not-excluded}
+use Rattle.laws.proofs.CaptureParts.{registers-ok}
+use Rattle.laws.proofs.KeepsQueue.{around, discard-ok}
+use Rattle.laws.proofs.Accepted.{accepted}
+use Rattle.laws.proofs.WriteControl.{write-control-ok}
+
+-- The capture state after a write that leaves CR.
+module _ {n : ℕ} (v : ℕ) (s : Capture) (h : CaptureOk n s) where
+  write-enable-ok : v < 2 ^ 32 → reserved-set InterruptEnable v ≡ false → CaptureOk n (with-registers (with-ier v (s .registers)) s)
+  unfolding with-ier
+  write-enable-ok small reserved =
+      let (cr, (ier, rest)) = allowed (s .registers) (h .allowed) in
+      let e : field 31 5 v ≡ 0 = eqb-true (field 31 5 v) 0 (not-false _ reserved) in
+      registers-ok (with-ier v (s .registers)) refl refl (not-excluded _ (cr, (reserved, rest))) (h .ris) (omega arith) h
+
+  write-clear-ok : CaptureOk n (with-registers (clear-flags v (s .registers)) s)
+  unfolding clear-flags with-ris excluded
+  write-clear-ok = registers-ok (clear-flags v (s .registers)) refl refl (h .allowed) (le-trans (sub-le _ _) (h .ris)) (h .ier) h
+
+  write-start-ok : reserved-set WindowStart v ≡ false → CaptureOk n (with-registers (with-cwstrt v (s .registers)) s)
+  unfolding with-cwstrt
+  write-start-ok reserved =
+      let (cr, (ier, (start, rest))) = allowed (s .registers) (h .allowed) in
+      registers-ok (with-cwstrt v (s .registers)) refl refl (not-excluded _ (cr, (ier, (reserved, rest)))) (h .ris) (h .ier) h
+
+  write-size-ok : reserved-set WindowSize v ≡ false → CaptureOk n (with-registers (with-cwsize v (s .registers)) s)
+  unfolding with-cwsize
+  write-size-ok reserved =
+      let (cr, (ier, (start, (size, rest)))) = allowed (s .registers) (h .allowed) in
+      registers-ok (with-cwsize v (s .registers)) refl refl (not-excluded _ (cr, (ier, (start, (reserved, rest))))) (h .ris) (h .ier) h
+
+-- A capture state put into the device, with the same ENABLE.
+capture-ok : (s : Capture) (d : Device) → enable (s .registers .cr) ≡ enable (d .capture .registers .cr)
+    → CaptureOk (d .counts .samples) s → WellFormed d → WellFormed (with-capture s d)
+unfolding with-capture
+capture-ok s d same c w = record { capture = c; queue = around s (λ off. sym same ∙ off) (w .queue) }
+
+-- CR written, and the held words discarded where ENABLE falls.
+control-ok : (d : Device) (v : ℕ) → CaptureOk (d .counts .samples) (write-control v (d .capture)) → WellFormed d
+    → WellFormed (write-at d (At Control) v)
+unfolding write-at write-register write-control discard with-capture with-registers with-cr
+control-ok d v c w =
+    let q = w .queue in
+    let s = write-control v (d .capture) in
+    by-cond (λ (x : Device). WellFormed (with-capture s x)) (enable (d .capture .registers .cr) && not (enable v)) _ _
+    (λ falls. record { capture = c; queue = around s (λ x. x) (discard-ok _ 0 d (q .completed) (q .place) (omega arith)) })
+    (λ stays. record { capture = c; queue = around s (λ off. and-false-left _ _ stays (not-is-true (enable v) off)) q })
+
+write-at-ok : (d : Device) (r : Found) (v : ℕ) → v < 2 ^ 32 → reserved-at r v ≡ false → unsupported-at r v ≡ false
+    → fixed-at (d .capture .registers .cr) r v ≡ false → WellFormed d → WellFormed (write-at d r v)
+unfolding write-at write-register with-ier with-cwstrt with-cwsize clear-flags with-ris with-registers with-capture
+write-at-ok d Nothing v small a b c w = w
+write-at-ok d (At Control) v small a b c w = control-ok d v (write-control-ok v a b (d .capture) (w .capture) c) w
+write-at-ok d (At Status) v small a b c w = w
+write-at-ok d (At RawStatus) v small a b c w = w
+write-at-ok d (At InterruptEnable) v small a b c w = capture-ok _ d refl (write-enable-ok v (d .capture) (w .capture) small a) w
+write-at-ok d (At MaskedStatus) v small a b c w = w
+write-at-ok d (At InterruptClear) v small a b c w = capture-ok _ d refl (write-clear-ok v (d .capture) (w .capture)) w
+write-at-ok d (At WindowStart) v small a b c w = capture-ok _ d refl (write-start-ok v (d .capture) (w .capture) a) w
+write-at-ok d (At WindowSize) v small a b c w = capture-ok _ d refl (write-size-ok v (d .capture) (w .capture) a) w
+
+accepted-ok : (d : Device) (offset v : ℕ) → v < 2 ^ 32 → write-refusal d offset v ≡ 0 → WellFormed d → WellFormed (write-at d (register-at offset) v)
+unfolding write-refusal
+accepted-ok d offset v small e w =
+    let tests = malformed d ⇒ 1 ∷ register-tests (d .capture .registers .cr) (register-at offset) v in
+    let (formed, (there, (writable, (reserved, (supported, (free, end)))))) = accepted tests (omega arith) e in
+    write-at-ok d (register-at offset) v small reserved supported free w
+
+pub write-keeps : (d : Device) (offset v : ℕ) → v < 2 ^ 32 → malformed d ≡ false → malformed (write d offset v .device) ≡ false
+unfolding write
+write-keeps d offset v small e =
+    by-cond (λ (x : Device). malformed x ≡ false) (eqb (write-refusal d offset v) 0) _ _
+    (λ t. well-formed _ (accepted-ok d offset v small (eqb-true _ 0 t) (facts d e)))
+    (λ t. e)
+
+rearmed-ok : (d : Device) → WellFormed d → WellFormed (rearmed d)
+unfolding rearmed
+rearmed-ok d w =
+    let q = w .queue in
+    record {
+      capture = w .capture;
+      queue =
+          record { held = q .held; clear = q .clear; idle = q .idle; completed = q .completed; place = omega arith; equation = q .equation };
+    }
+
+pub rearm-keeps : (d : Device) → malformed d ≡ false → malformed (rearm d .device) ≡ false
+unfolding rearm
+rearm-keeps d e =
+    either (λ (x : Device). malformed x ≡ false) (eqb (first (malformed d ⇒ 1 ∷ [])) 0) (well-formed _ (rearmed-ok d (facts d e))) e

@@ -1,0 +1,13 @@
+pub mod Accepted
+pub mod CaptureParts
+pub mod FifoSlots
+pub mod Keeps
+pub mod KeepsCapture
+pub mod KeepsEnable
+pub mod KeepsFrame
+pub mod KeepsQueue
+pub mod KeepsSlots
+pub mod KeepsWrites
+pub mod Packing
+pub mod RegisterValues
+pub mod WriteControl

@@ -1,0 +1,114 @@
+-- What the rules make of a register's value: a raised flag keeps RIS at most 31, and clearing CAPTURE keeps every other field of CR.
+-- The idea: two values with the same half have the same bits from bit 1 on. Assumes nothing.
+use mathlib.Core.Bool.{Bool, true, false, not, _&&_, _||_}
+use mathlib.Core.List.{List, [], _∷_}
+use mathlib.Core.Path.{_≡_, refl}
+use Prim.Native.Nat.{ℕ, zero, suc, _+_, _-_, _/_, _%_, _^_, _≤_}
+use native.Mathlib.Nat.{div-div-eq-div-mul, pow-succ'}
+use native.Mathlib.Omega.{arith}
+use lib.Dec.{eqb}
+use borrow.Author.Tests.{eqb-true, eqb-false, ne-eqb, not-false}
+use Rattle.registers.specs.Bits.{bit, field}
+use Rattle.registers.specs.Control.{capture, jpeg, embedded, fcrc, edm, enable, unsupported}
+use Rattle.registers.specs.Map.{reserved-set}
+use Rattle.registers.specs.declared.Register.the-variants.{Control, InterruptEnable, WindowStart, WindowSize}
+use Rattle.rules.specs.declared.Registers.{Registers}
+use Rattle.rules.specs.State.{raised, lowered, with-cr}
+use Rattle.rules.specs.WellFormed.{excluded}
+use Rattle.rules.proofs.Booleans.{or-false, both-false, and-false, by-cond, None, none, none-any}
+
+bit-true : (k x : ℕ) → bit k x ≡ true → x / 2 ^ k % 2 ≡ 1
+bit-true k x e = eqb-true (x / 2 ^ k % 2) 1 e
+
+bit-false : (k x : ℕ) → bit k x ≡ false → x / 2 ^ k % 2 ≡ 0
+bit-false k x e = let h = eqb-false (x / 2 ^ k % 2) 1 e in omega arith
+
+-- A flag that is 0 leaves room for it.
+raised-where : (k x : ℕ) → (x / 2 ^ k % 2 ≡ 0 → x + 2 ^ k ≤ 31) → x ≤ 31 → raised k x ≤ 31
+unfolding raised
+raised-where k x room h = by-cond (λ y. y ≤ 31) (bit k x) _ _ (λ e. h) (λ e. room (bit-false k x e))
+
+pub raised-fits : (k x : ℕ) → k ≤ 4 → x ≤ 31 → raised k x ≤ 31
+raised-fits zero x flag h = raised-where 0 x (omega arith) h
+raised-fits (suc zero) x flag h = raised-where 1 x (omega arith) h
+raised-fits (suc (suc zero)) x flag h = raised-where 2 x (omega arith) h
+raised-fits (suc (suc (suc zero))) x flag h = raised-where 3 x (omega arith) h
+raised-fits (suc (suc (suc (suc zero)))) x flag h = raised-where 4 x (omega arith) h
+raised-fits (suc (suc (suc (suc (suc k))))) x flag h = absurd (omega arith)
+
+lowered-half : (x : ℕ) → lowered 0 x / 2 ≡ x / 2
+unfolding lowered
+lowered-half x = by-cond (λ y. y / 2 ≡ x / 2) (bit 0 x) _ _ (λ e. omega (arith, bit-true 0 x e)) (λ e. refl)
+
+lowered-capture : (x : ℕ) → capture (lowered 0 x) ≡ false
+unfolding lowered
+lowered-capture x =
+    by-cond (λ y. capture y ≡ false) (bit 0 x) _ _
+    (λ e. ne-eqb ((x - 2 ^ 0) / 2 ^ 0 % 2) 1 (omega (arith, bit-true 0 x e)))
+    (λ e. e)
+
+-- Bits from bit 1 on.
+same-above : (k x y : ℕ) → x / 2 ≡ y / 2 → x / 2 ^ suc k ≡ y / 2 ^ suc k
+same-above k x y h = rw (pow-succ' 2 k, ← div-div-eq-div-mul x 2 (2 ^ k), ← div-div-eq-div-mul y 2 (2 ^ k), h)
+
+-- CAPTURE cleared: ENABLE and the bits 13:1, and with them FCRC and EDM, stay.
+pub lowered-enable : (x : ℕ) → enable (lowered 0 x) ≡ enable x
+lowered-enable x = rw (same-above 13 _ _ (lowered-half x))
+
+pub lowered-setup : (x : ℕ) → field 13 1 (lowered 0 x) ≡ field 13 1 x
+lowered-setup x = rw (lowered-half x)
+
+lowered-reserved : (x : ℕ) → reserved-set Control (lowered 0 x) ≡ reserved-set Control x
+lowered-reserved x = rw (same-above 11 _ _ (lowered-half x), same-above 14 _ _ (lowered-half x))
+
+supported : (x : ℕ) → unsupported x ≡ false
+    → (jpeg x || embedded x || eqb (fcrc x) 3 ≡ false) × (capture x && not (enable x) ≡ false)
+unfolding unsupported
+supported x e = or-false (jpeg x || embedded x || eqb (fcrc x) 3) (capture x && not (enable x)) e
+
+lowered-supported : (x : ℕ) → unsupported x ≡ false → unsupported (lowered 0 x) ≡ false
+unfolding unsupported
+lowered-supported x e =
+    both-false (jpeg (lowered 0 x) || embedded (lowered 0 x) || eqb (fcrc (lowered 0 x)) 3) _
+    (rw (same-above 2 _ _ (lowered-half x), same-above 3 _ _ (lowered-half x), same-above 7 _ _ (lowered-half x)) (supported x e .0))
+    (rw (lowered-capture x))
+
+pub capture-enable : (x : ℕ) → unsupported x ≡ false → capture x ≡ true → enable x ≡ true
+capture-enable x e c = not-false _ (and-false _ _ (supported x e .1) c)
+
+pub same-fcrc : (x y : ℕ) → field 13 1 x ≡ field 13 1 y → fcrc x ≡ fcrc y
+same-fcrc x y h = omega arith
+
+pub same-edm : (x y : ℕ) → field 13 1 x ≡ field 13 1 y → edm x ≡ edm y
+same-edm x y h = omega arith
+
+-- What refusals 4 and 5 exclude, test by test.
+abbrev pub tests : Registers → List Bool
+tests r =
+    reserved-set Control (r .cr) ∷
+    reserved-set InterruptEnable (r .ier) ∷
+    reserved-set WindowStart (r .cwstrt) ∷
+    reserved-set WindowSize (r .cwsize) ∷
+    unsupported (r .cr) ∷
+    []
+
+pub allowed : (r : Registers) → excluded r ≡ false → None (tests r)
+unfolding excluded
+allowed r e = none (tests r) e
+
+pub not-excluded : (r : Registers) → None (tests r) → excluded r ≡ false
+unfolding excluded
+not-excluded r n = none-any (tests r) n
+
+-- Another value of CR, in itself allowed.
+pub allowed-cr : (v : ℕ) (r : Registers) → reserved-set Control v ≡ false → unsupported v ≡ false
+    → excluded r ≡ false → excluded (with-cr v r) ≡ false
+unfolding with-cr
+allowed-cr v r reserved supported e =
+    let (cr, (ier, (start, (size, rest)))) = allowed r e in
+    not-excluded _ (reserved, (ier, (start, (size, (supported, tt)))))
+
+pub lowered-allowed : (r : Registers) → excluded r ≡ false → excluded (with-cr (lowered 0 (r .cr)) r) ≡ false
+lowered-allowed r e =
+    let (cr, (ier, (start, (size, (supported, end))))) = allowed r e in
+    allowed-cr (lowered 0 (r .cr)) r (rw lowered-reserved cr) (lowered-supported (r .cr) supported) e
