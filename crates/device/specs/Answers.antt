@@ -1,16 +1,23 @@
 -- The paper's numbers and values of each case of the answers (document 01, "Refusal numbers").
 use mathlib.Core.Bool.{Bool, true, false}
+use mathlib.Core.List.{List}
 use Prim.Native.Nat.{ℕ}
+use Rattle.rules.specs.declared.Device.{Device}
 use Rattle.rules.specs.Answers.{Answer, refused, answered, Changed}
+use Rattle.rules.specs.Run.{Ran, RunResult, SampleAnswer, SampleResult}
+use Rattle.sampling.specs.Answers.{landing, packing}
 use Rattle.device.specs.declared.Refusal.{Refusal}
-use Rattle.device.specs.declared.Refusal.the-variants.{Malformed, NoRegister, AccessKind, ReservedBit, Unsupported, Enabled}
+use Rattle.device.specs.declared.Refusal.the-variants.{Malformed, NoRegister, AccessKind, ReservedBit, Unsupported, Enabled, SampleBits, SampleCount, StartBeyond}
 use Rattle.device.specs.declared.Outcome.{Outcome}
 use Rattle.device.specs.declared.Outcome.the-variants as outcomes
 use Rattle.device.specs.declared.Reading.{Reading}
 use Rattle.device.specs.declared.Reading.the-variants as readings
 use Rattle.device.specs.declared.Line.{Line}
 use Rattle.device.specs.declared.Line.the-variants as levels
+use Rattle.device.specs.declared.Reply.{Reply}
+use Rattle.device.specs.declared.Reply.the-variants as replies
 use Rattle.device.specs.declared.Written.{Written}
+use Rattle.device.specs.declared.Sampled.{Sampled}
 
 abbrev pub number : Refusal → ℕ
 number Malformed = 1
@@ -19,6 +26,9 @@ number AccessKind = 3
 number ReservedBit = 4
 number Unsupported = 5
 number Enabled = 6
+number SampleBits = 7
+number SampleCount = 8
+number StartBeyond = 9
 
 -- 0 of an accepted call, else the refusal's number.
 abbrev pub outcome : Outcome → ℕ
@@ -39,3 +49,18 @@ line (levels.Refused e) = refused (number e)
 -- The number and the device that a call leaves.
 abbrev pub written : Written → Changed
 written w = record { number = outcome (w .outcome); device = w .device }
+
+-- With the frame buffer, and with the memory, that some samples leave.
+abbrev pub stepped : Device → List ℕ → Ran
+stepped d buffer = record { device = d; buffer = buffer }
+
+abbrev pub ran : Written → List ℕ → RunResult
+ran w memory = record { number = outcome (w .outcome); device = w .device; memory = memory }
+
+-- A sample's two answers, or a refusal.
+abbrev pub reply : Reply → Answer SampleAnswer
+reply (replies.Answered l p) = answered (record { landing = landing l; packed = packing p })
+reply (replies.Refused e) = refused (number e)
+
+abbrev pub sampled : Sampled → List ℕ → SampleResult
+sampled s memory = record { answer = reply (s .reply); device = s .device; memory = memory }

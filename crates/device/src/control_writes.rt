@@ -2,18 +2,17 @@
 ghost use mathlib.Core.Path.{_≡_};
 ghost use Prim.Native.Nat.{_+_, _<_, _^_};
 ghost use Rattle.registers.specs.declared.Found.the-variants.{At};
-ghost use Rattle.rules.specs.Queue as queue;
 ghost use Rattle.rules.specs.RegisterCalls as calls;
 use crate::well_formed::is_open;
 use registers::Register;
 use registers::control;
 use rules::Capture;
 use rules::Device;
-use rules::Fifo;
 use rules::Frame;
 use rules::Partial;
 use rules::Registers;
 use rules::Syncs;
+use sampling::fifo::discard;
 
 // ENABLE 0 to 1.
 fn enabling(s: Capture) -> Capture
@@ -154,21 +153,6 @@ fn disables(cr: u32, register: Register, v: u32) -> bool
         Register::WindowStart => false,
         Register::WindowSize => false,
     }
-}
-
-// The held words and `more` besides are discarded. The caller knows that the count fits.
-pub fn discard(more: u32, mut d: Device) -> Device
-    requires { ⌜ d .counts .discarded + d .fifo .held + more < 2 ^ 32 ⌝ }
-    ensures { λ r. ⌜ r ≡ queue.discard more d ⌝ }
-{
-    let discarded = d.counts.discarded + d.fifo.held + more;
-    let empty = Fifo {
-        slots: [0; 4],
-        held: 0,
-    };
-    d.counts.discarded = discarded;
-    d.fifo = empty;
-    d
 }
 
 // An accepted write, of the device.

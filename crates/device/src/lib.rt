@@ -1,5 +1,5 @@
-// The device: reset, the test for malformed devices, register reads and writes, the interrupt line and re-arming. A device goes in by
-// value and comes back by value. Each public function answers for every device and number, states its whole result as one equation
+// The device: reset, the test for malformed devices, register reads and writes, the interrupt line, re-arming, runs and single samples. A
+// device goes in by value and comes back by value. Each public function answers for every device and number, states its whole result as one equation
 // with a definition of the crate `rules`, and has no `requires`; a refused call returns the device as it was.
 ghost use mathlib.Core.Path.{_≡_};
 ghost use Rattle.rules.specs.State as state;
@@ -7,6 +7,7 @@ ghost use Rattle.device.specs.Answers as answers;
 
 mod control_writes;
 mod register_calls;
+mod runs;
 mod well_formed;
 
 pub use register_calls::interrupt;
@@ -22,6 +23,10 @@ use rules::Partial;
 use rules::Pins;
 use rules::Registers;
 use rules::Syncs;
+pub use runs::run;
+pub use runs::sample;
+use sampling::Landing;
+use sampling::Packing;
 pub use well_formed::malformed;
 
 // Why a call is refused.
@@ -32,6 +37,9 @@ pub enum Refusal {
     ReservedBit,
     Unsupported,
     Enabled,
+    SampleBits,
+    SampleCount,
+    StartBeyond,
 }
 
 impl Refusal {
@@ -46,6 +54,9 @@ impl Refusal {
             Refusal::ReservedBit => 4,
             Refusal::Unsupported => 5,
             Refusal::Enabled => 6,
+            Refusal::SampleBits => 7,
+            Refusal::SampleCount => 8,
+            Refusal::StartBeyond => 9,
         }
     }
 }
@@ -69,10 +80,22 @@ pub enum Line {
     Refused(Refusal),
 }
 
+// The answer of one sample: where a word landed, and what became of the sample's own word.
+pub enum Reply {
+    Answered(Landing, Packing),
+    Refused(Refusal),
+}
+
 // A device after a call, with the answer.
 pub struct Written {
     pub device: Device,
     pub outcome: Outcome,
+}
+
+// A device after one sample, with the answer.
+pub struct Sampled {
+    pub device: Device,
+    pub reply: Reply,
 }
 
 // A device after reset.

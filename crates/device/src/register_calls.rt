@@ -1,5 +1,4 @@
 // Register reads and writes, the interrupt line and re-arming.
-ghost use mathlib.Core.Bool.{Bool·beq};
 ghost use mathlib.Core.Path.{_≡_};
 ghost use Rattle.registers.specs.declared.Found.the-variants.{At};
 ghost use Rattle.rules.specs.RegisterCalls as calls;
@@ -11,18 +10,12 @@ use crate::Refusal;
 use crate::Written;
 use crate::control_writes::write_at;
 use crate::well_formed::malformed;
+use capture::syncs::blanks;
 use registers::Access;
 use registers::Found;
 use registers::Register;
 use registers::control;
 use rules::Device;
-
-// Whether a pin blanks: it equals its polarity bit.
-pub fn blanks(pin: bool, polarity: bool) -> bool
-    ensures { λ r. ⌜ r ≡ Bool·beq pin polarity ⌝ }
-{
-    pin == polarity
-}
 
 fn when(t: bool, n: u32) -> u32
     ensures { λ r. ⌜ r ≡ calls.when t n ⌝ }

@@ -6,6 +6,9 @@ ghost use lib.Dec.{eqb};
 ghost use lib.ListN.{drop};
 ghost use Rattle.rules.specs.Capture as rules;
 ghost use Rattle.rules.specs.WellFormed as wf;
+use capture::frame::rate_period;
+use capture::packing::per_word;
+use capture::packing::width;
 use registers::Register;
 use registers::control;
 use rules::Capture;
@@ -37,36 +40,6 @@ fn bad_fifo(f: Fifo) -> bool
     }
     let slots = f.slots;
     !all_zero(slots, held as usize)
-}
-
-// How many data bits a pixel has, and how many data make a word.
-pub fn width(cr: u32) -> u32
-    ensures { λ r. ⌜ r ≡ rules.width cr ⌝ }
-{
-    8 + 2 * control::edm(cr)
-}
-
-pub fn per_word(cr: u32) -> u32
-    ensures { λ r. ⌜ r ≡ rules.per-word cr ⌝ }
-{
-    if control::edm(cr) == 0 {
-        return 4;
-    }
-    2
-}
-
-// The period of the rate counter.
-pub fn rate_period(cr: u32) -> u32
-    ensures { λ r. ⌜ r ≡ rules.rate-period cr ⌝ }
-{
-    let fcrc = control::fcrc(cr);
-    if fcrc == 0 {
-        return 1;
-    }
-    if fcrc == 1 {
-        return 2;
-    }
-    4
 }
 
 // How many bits some data occupy.

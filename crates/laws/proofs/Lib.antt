@@ -11,3 +11,4 @@ pub mod KeepsWrites
 pub mod Packing
 pub mod RegisterValues
 pub mod WriteControl
+pub mod Conservation

@@ -16,7 +16,7 @@ use Rattle.rules.specs.WellFormed.{unused-bits}
 use Rattle.rules.proofs.Booleans.{not-is-false}
 
 -- The two layouts: width, lane and data per word.
-layout : (P : ℕ → ℕ → ℕ → Type 0) (cr : ℕ) → P 8 8 4 → ((w : ℕ) → w ≤ 14 → P w 16 2) → P (width cr) (lane cr) (per-word cr)
+pub layout : (P : ℕ → ℕ → ℕ → Type 0) (cr : ℕ) → P 8 8 4 → ((w : ℕ) → w ≤ 14 → P w 16 2) → P (width cr) (lane cr) (per-word cr)
 unfolding width lane per-word
 layout P cr f g = go (eqb (edm cr) 0) refl
   where

@@ -1,0 +1,91 @@
+// Rules 6 and 7: the place of a pixel, and whether it is captured.
+ghost use mathlib.Core.Path.{_≡_};
+ghost use Prim.Native.Nat.{_+_, _-_, _<_, _^_};
+ghost use Rattle.rules.specs.Capture as rules;
+use registers::control;
+use registers::window;
+use rules::Capture;
+use rules::Scan;
+
+// Rule 6: a line begins if HSYNC blanked at the last working edge or no line has begun in this frame.
+fn line_begins(s: Capture, f: Scan) -> bool
+    ensures { λ r. ⌜ r ≡ rules.line-begins s f ⌝ }
+{
+    if s.syncs.hsync {
+        return true;
+    }
+    f.lines == 0
+}
+
+// Rule 6: the lines begun and the pixels of the last with one pixel more.
+pub fn next_pixel(s: Capture, f: Scan) -> Scan
+    requires { ⌜ (f .lines + 1 < 2 ^ 32) × (f .pixels + 1 < 2 ^ 32) ⌝ }
+    ensures { λ r. ⌜ r ≡ rules.next-pixel s f ⌝ }
+{
+    if line_begins(s, f) {
+        return Scan {
+            taken: f.taken,
+            lines: f.lines + 1,
+            pixels: 1,
+        };
+    }
+    Scan {
+        taken: f.taken,
+        lines: f.lines,
+        pixels: f.pixels + 1,
+    }
+}
+
+// Rule 7: from a first one, that one and as many more as the register says, ends included.
+fn within(start: u32, more: u32, x: u32) -> bool
+    requires { ⌜ start + more < 2 ^ 32 ⌝ }
+    ensures { λ r. ⌜ r ≡ rules.within start more x ⌝ }
+{
+    if start <= x {
+        return x <= start + more;
+    }
+    false
+}
+
+// A count as a number from 0: lines and columns count from 0. Of 0 it is 0.
+fn less_one(n: u32) -> u32
+    ensures { λ r. ⌜ r ≡ n - 1 ⌝ }
+{
+    if n == 0 {
+        return 0;
+    }
+    n - 1
+}
+
+// Rule 7: the last pixel's line and column are in the window.
+fn in_window(s: Capture, f: Scan) -> bool
+    ensures { λ r. ⌜ r ≡ rules.in-window s f ⌝ }
+{
+    let line = less_one(f.lines);
+    let column = less_one(f.pixels);
+    if within(
+        window::vst(s.registers.cwstrt),
+        window::vline(s.registers.cwsize),
+        line,
+    ) {
+        return within(
+            window::hoffcnt(s.registers.cwstrt),
+            window::capcnt(s.registers.cwsize),
+            column,
+        );
+    }
+    false
+}
+
+// Rule 7: a pixel of a taken frame is captured if CROP is 0 or it is in the window.
+pub fn captured(s: Capture, f: Scan) -> bool
+    ensures { λ r. ⌜ r ≡ rules.captured s f ⌝ }
+{
+    if f.taken {
+        if control::crop(s.registers.cr) {
+            return in_window(s, f);
+        }
+        return true;
+    }
+    false
+}

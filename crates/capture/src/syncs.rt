@@ -1,0 +1,179 @@
+// A sample's fields, and rules 2 and 3: the working edge, blanking, and the flags VSYNC and LINE.
+ghost use mathlib.Core.Bool.{cond, Bool·beq};
+ghost use mathlib.Core.Path.{_≡_};
+ghost use Prim.Native.Nat.{_+_, _/_, _%_, _<_, _≤_, _^_};
+ghost use lib.Dec.{eqb};
+ghost use Rattle.rules.specs.State as state;
+ghost use Rattle.rules.specs.Capture as rules;
+use registers::control;
+use rules::Capture;
+use rules::Pins;
+use rules::Syncs;
+
+pub fn pixel_data(w: u32) -> u32
+    ensures { λ r. ⌜ r ≡ rules.pixel-data w ⌝ }
+{
+    w % 16384
+}
+
+pub fn hsync_pin(w: u32) -> bool
+    ensures { λ r. ⌜ r ≡ rules.hsync-pin w ⌝ }
+{
+    w / 16384 % 2 == 1
+}
+
+pub fn vsync_pin(w: u32) -> bool
+    ensures { λ r. ⌜ r ≡ rules.vsync-pin w ⌝ }
+{
+    w / 32768 % 2 == 1
+}
+
+pub fn clock_pin(w: u32) -> bool
+    ensures { λ r. ⌜ r ≡ rules.clock-pin w ⌝ }
+{
+    w / 65536 % 2 == 1
+}
+
+pub fn bus_grant(w: u32) -> bool
+    ensures { λ r. ⌜ r ≡ rules.bus-grant w ⌝ }
+{
+    w / 131072 % 2 == 1
+}
+
+// Rule 2: the clock fell (PCKPOL 0) or rose (PCKPOL 1) since the last sample, with ENABLE 1.
+pub fn working_edge(s: Capture, w: u32) -> bool
+    ensures { λ r. ⌜ r ≡ rules.working-edge s w ⌝ }
+{
+    let cr = s.registers.cr;
+    let before = s.pins.clock;
+    let now = clock_pin(w);
+    if control::enable(cr) {
+        if control::pckpol(cr) {
+            if before {
+                return false;
+            }
+            return now;
+        }
+        if before {
+            return !now;
+        }
+        return false;
+    }
+    false
+}
+
+// Rule 2: the sample's levels are remembered.
+pub fn remember_pins(w: u32, mut s: Capture) -> Capture
+    ensures { λ r. ⌜ r ≡ rules.remember-pins w s ⌝ }
+{
+    let hsync = hsync_pin(w);
+    let vsync = vsync_pin(w);
+    let clock = clock_pin(w);
+    let pins = Pins {
+        hsync,
+        vsync,
+        clock,
+    };
+    s.pins = pins;
+    s
+}
+
+// A pin blanks when it equals its polarity bit.
+pub fn blanks(pin: bool, polarity: bool) -> bool
+    ensures { λ r. ⌜ r ≡ Bool·beq pin polarity ⌝ }
+{
+    pin == polarity
+}
+
+// Rule 3: whether each sync blanks now.
+pub fn blanking(s: Capture, w: u32) -> Syncs
+    ensures { λ r. ⌜ r ≡ rules.blanking s w ⌝ }
+{
+    let cr = s.registers.cr;
+    let hsync = blanks(hsync_pin(w), control::hspol(cr));
+    let vsync = blanks(vsync_pin(w), control::vspol(cr));
+    Syncs { hsync, vsync }
+}
+
+// A number with one of its bits made 1, the bit given by its weight.
+fn raised(weight: u32, x: u32) -> u32
+    requires { ⌜ (0 < weight) × (x + weight < 2 ^ 32) ⌝ }
+    ensures { λ r. ⌜ r ≡ cond (eqb (x / weight % 2) 1) x (x + weight) ⌝ }
+{
+    if x / weight % 2 == 1 {
+        return x;
+    }
+    x + weight
+}
+
+// The flags of RIS that rules 3, 4 and 9 raise.
+pub fn raise_frame(mut s: Capture) -> Capture
+    requires { ⌜ s .registers .ris ≤ 31 ⌝ }
+    ensures { λ r. ⌜ r ≡ state.raise 0 s ⌝ }
+{
+    let ris = raised(1, s.registers.ris);
+    s.registers.ris = ris;
+    s
+}
+
+pub fn raise_ovr(mut s: Capture) -> Capture
+    requires { ⌜ s .registers .ris ≤ 31 ⌝ }
+    ensures { λ r. ⌜ r ≡ state.raise 1 s ⌝ }
+{
+    let ris = raised(2, s.registers.ris);
+    s.registers.ris = ris;
+    s
+}
+
+fn raise_vsync(mut s: Capture) -> Capture
+    requires { ⌜ s .registers .ris ≤ 31 ⌝ }
+    ensures { λ r. ⌜ r ≡ state.raise 3 s ⌝ }
+{
+    let ris = raised(8, s.registers.ris);
+    s.registers.ris = ris;
+    s
+}
+
+fn raise_line(mut s: Capture) -> Capture
+    requires { ⌜ s .registers .ris ≤ 31 ⌝ }
+    ensures { λ r. ⌜ r ≡ state.raise 4 s ⌝ }
+{
+    let ris = raised(16, s.registers.ris);
+    s.registers.ris = ris;
+    s
+}
+
+fn vsync_flag(s: Capture, now: Syncs) -> Capture
+    requires { ⌜ s .registers .ris ≤ 31 ⌝ }
+    ensures { λ r. ⌜ r ≡ rules.vsync-flag s now ⌝ }
+{
+    if s.syncs.vsync {
+        return s;
+    }
+    if now.vsync {
+        return raise_vsync(s);
+    }
+    s
+}
+
+fn line_flag(s: Capture, now: Syncs) -> Capture
+    requires { ⌜ s .registers .ris ≤ 31 ⌝ }
+    ensures { λ r. ⌜ r ≡ rules.line-flag s now ⌝ }
+{
+    if s.syncs.hsync {
+        return s;
+    }
+    if now.hsync {
+        return raise_line(s);
+    }
+    s
+}
+
+// Rule 3: a sync that did not blank at the last working edge and blanks now raises its flag.
+pub fn sync_flags(s: Capture, now: Syncs) -> Capture
+    requires { ⌜ s .registers .ris ≤ 31 ⌝ }
+    ensures { λ r. ⌜ r ≡ rules.sync-flags s now ⌝ }
+{
+    let t = vsync_flag(s, now);
+    line_flag(t, now)
+}

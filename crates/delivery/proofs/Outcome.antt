@@ -1,0 +1,99 @@
+-- What a closed scenario comes to, by computation over the rules (`outcome`), and the premises from their test.
+-- The idea: each tail of the samples is tested, so each window is; unfolding `outcome` unfolds every rule. Assumes nothing.
+use mathlib.Core.Bool.{Bool, true, _&&_, _||_}
+use mathlib.Core.List.{List, [], _∷_, map}
+use mathlib.Core.Path.{_≡_}
+use Prim.Native.Nat.{ℕ, zero, suc, _+_, _-_, _*_, _≤_}
+use native.Mathlib.Omega.{arith}
+use lib.Dec.{ltb, leb}
+use lib.ListN.{length, take, drop, length-drop}
+use borrow.Author.Tests.{leb-true, le-ltb}
+use Rattle.registers.specs.Bits.{bit}
+use Rattle.registers.specs.Control.{unsupported}
+use Rattle.registers.specs.Map.{register-at}
+use Rattle.rules.specs.State.{fresh, depth, raised, lowered, with-cr, with-ris, with-ier, with-cwstrt, with-cwsize, with-registers, with-pins, with-syncs, with-frame, with-rate, with-partial, raise, clear-capture, close-frame, with-capture}
+use Rattle.rules.specs.Capture.{no-word, working-edge, remember-pins, blanking, vsync-flag, line-flag, sync-flags, frame-captured, end-of, frame-end, rate-period, next-rate, open-frame, start-of, frame-start, line-begins, next-pixel, within, in-window, captured, width, lane, per-word, packed-bits, pack, pixel, pixel-in, pixel-edge, at-edge, remember, capture-sample}
+use Rattle.rules.specs.Queue.{pop, push, bytes, room, stored, lands, landed, grant, discard, count-word, hold, lose-frame, overrun, full-word, complete}
+use Rattle.rules.specs.WellFormed.{all-zero, bad-fifo, unused-bits, full-partial, excluded, bad-flags, active-disabled, partial-outside, bad-rate, above-samples, bad-place, bad-counts, malformed}
+use Rattle.rules.specs.RegisterCalls.{changes-setup, write-refusal, enabling, disabling, switch-enable, capture-rises, switch-capture, write-control, clear-flags, write-register, write-at, write}
+use Rattle.rules.specs.Run.{count-sample, after-grant, step, steps, bad-sample, any-bad, run-refusal, run, in-memory, sample}
+use Rattle.rules.proofs.Booleans.{and-true}
+use Rattle.delivery.specs.Calls.{Write, written, Call, System, accepted, after-call, samples, inside, moments}
+use Rattle.delivery.specs.Noted.{write-found, noted-write, noted-writes, note, noted, spacing}
+use Rattle.delivery.specs.Delivery.{contents, grants, Scenario, set-up, trace, distance, noted-by, Premises}
+
+-- A test that each tail of a list passes.
+abbrev pub tails : (List ℕ → Bool) → List ℕ → Bool
+tails f [] = f []
+tails f (x ∷ xs) = f (x ∷ xs) && tails f xs
+
+each-tail : (f : List ℕ → Bool) (xs : List ℕ) → tails f xs ≡ true → (k : ℕ) → f (drop k xs) ≡ true
+each-tail f [] e zero = e
+each-tail f [] e (suc k) = e
+each-tail f (x ∷ xs) e zero = and-true (f (x ∷ xs)) (tails f xs) e .0
+each-tail f (x ∷ xs) e (suc k) = each-tail f xs (and-true (f (x ∷ xs)) (tails f xs) e .1) k
+
+-- The premises with windows of w samples and g grants in each; their two tests.
+pub record Windows (w g : ℕ) (x : Scenario) : Type 0 where
+  pub room : 4 * length (noted-by x (length (trace x))) ≤ length (x .memory) - x .start
+  pub granted : (k : ℕ) → k + w ≤ length (trace x) → g ≤ grants (take w (drop k (trace x)))
+
+abbrev pub has-room : Scenario → Bool
+has-room x = leb (4 * length (noted-by x (length (trace x)))) (length (x .memory) - x .start)
+
+abbrev pub has-grants : ℕ → ℕ → List ℕ → Bool
+has-grants w g xs = ltb (length xs) w || leb g (grants (take w xs))
+
+-- Device and memory after all calls.
+unfoldable pub final : ℕ → System → List Call → System
+final start s [] = s
+final start s (c ∷ cs) = final start (after-call start s c) cs
+
+-- Whether a scenario has these windows, its spacing, how many moments and accepted samples it has, the numbers of the samples at which
+-- words are noted, and of the device at the end its counts, its held words and OVR.
+pub record Outcome : Type 0 where
+  pub met : Bool
+  pub distance : ℕ
+  pub moments : ℕ
+  pub samples : ℕ
+  pub noted : List ℕ
+  pub completed : ℕ
+  pub landed : ℕ
+  pub discarded : ℕ
+  pub held : List ℕ
+  pub overrun : Bool
+
+unfoldable pub outcome : ℕ → ℕ → Scenario → Outcome
+unfolding final grants contents spacing written accepted after-call samples inside moments noted-write noted-writes write-found note noted unsupported register-at fresh raised lowered with-cr with-ris with-ier with-cwstrt with-cwsize with-registers with-pins with-syncs with-frame with-rate with-partial raise clear-capture close-frame with-capture no-word working-edge remember-pins blanking vsync-flag line-flag sync-flags frame-captured end-of frame-end rate-period next-rate open-frame start-of frame-start line-begins next-pixel within in-window captured width lane per-word packed-bits pack pixel pixel-in pixel-edge at-edge remember capture-sample pop push bytes room stored lands landed grant discard count-word hold lose-frame overrun full-word complete all-zero bad-fifo unused-bits full-partial excluded bad-flags active-disabled partial-outside bad-rate above-samples bad-place bad-counts malformed changes-setup write-refusal enabling disabling switch-enable capture-rises switch-capture write-control clear-flags write-register write-at write count-sample after-grant step steps bad-sample any-bad run-refusal run in-memory sample
+outcome w g x =
+    let d = final (x .start) (set-up x) (x .calls) .device in
+    record {
+      met = has-room x && tails (has-grants w g) (trace x);
+      distance = distance x;
+      moments = length (moments (x .start) (set-up x) 0 (x .calls));
+      samples = length (trace x);
+      noted = map (λ n. n .sample) (noted-by x (length (trace x)));
+      completed = d .counts .completed;
+      landed = d .counts .landed;
+      discarded = d .counts .discarded;
+      held = contents (d .fifo);
+      overrun = bit 1 (d .capture .registers .ris);
+    }
+
+pub windows : (w g : ℕ) (x : Scenario) → outcome w g x .met ≡ true → Windows w g x
+unfolding outcome
+windows w g x e =
+    let (fits, dense) = and-true (has-room x) (tails (has-grants w g) (trace x)) e in
+    record { room = leb-true _ _ fits; granted = λ k h. window k h (each-tail (has-grants w g) (trace x) dense k) }
+  where
+    window : (k : ℕ) → k + w ≤ length (trace x) → has-grants w g (drop k (trace x)) ≡ true → g ≤ grants (take w (drop k (trace x)))
+    window k h t = leb-true g _ (rw (le-ltb (length (drop k (trace x))) w (rw length-drop (omega arith))) at t)
+
+-- The premises themselves, for 4 samples from word to word.
+pub premises : (x : Scenario) → outcome (depth * 4) depth x .met ≡ true → outcome (depth * 4) depth x .distance ≡ 4 → Premises x
+unfolding outcome
+premises x e four = let h = windows (depth * 4) depth x e in record { room = h .room; granted = rw four (h .granted) }
+
+-- A write of CR: 12 bits, snapshot, polarities 1, enabled and capturing.
+abbrev pub twelve-bits : Write
+twelve-bits = record { offset = 0; value = 0x48E3; fits = omega arith }

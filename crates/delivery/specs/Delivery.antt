@@ -1,0 +1,93 @@
+-- Demand 3, as document 01's last section spells it out: its premises and its promises.
+use mathlib.Core.Bool.{false, cond}
+use mathlib.Core.List.{List, [], _∷_, _++_}
+use mathlib.Core.Option.{some}
+use mathlib.Core.Path.{_≡_}
+use Prim.Native.Nat.{ℕ, _+_, _-_, _*_, _≤_, _<_}
+use lib.ListN.{length, take, drop}
+use Rattle.registers.specs.Bits.{bit}
+use Rattle.rules.specs.declared.Capture.{Capture}
+use Rattle.rules.specs.declared.Fifo.{Fifo}
+use Rattle.rules.specs.State.{fresh, depth}
+use Rattle.rules.specs.Capture.{bus-grant}
+use Rattle.rules.specs.Queue.{bytes, Packed}
+use Rattle.delivery.specs.Calls.{Write, written, Call, System, samples, Moment, moments}
+use Rattle.delivery.specs.Noted.{Noted, noted-writes, noted, words, noted-at, spacing}
+
+-- The held words, oldest first.
+unfoldable pub contents : Fifo → List ℕ
+contents f = take (f .held) (f .slots)
+
+-- The bytes of some words, each little-endian.
+unfoldable pub all-bytes : List ℕ → List ℕ
+all-bytes [] = []
+all-bytes (v ∷ vs) = bytes v ++ all-bytes vs
+
+-- A memory with words 0, 1 and so on at their bytes from a start byte on, and every other byte as it was.
+unfoldable pub with-words : ℕ → List ℕ → List ℕ → List ℕ
+with-words start vs memory = take start memory ++ all-bytes vs ++ drop (start + 4 * length vs) memory
+
+-- How many of some samples grant the bus.
+unfoldable pub grants : List ℕ → ℕ
+grants [] = 0
+grants (w ∷ ws) = cond (bus-grant w) 1 0 + grants ws
+
+-- Everything that the claim is about: the writes from reset, the calls, the one start byte and the memory first lent.
+pub record Scenario : Type 0 where
+  pub writes : List Write
+  pub calls : List Call
+  pub start : ℕ
+  pub memory : List ℕ
+
+-- The bench after the writes.
+abbrev pub set-up : Scenario → System
+set-up x = record { device = written fresh (x .writes); memory = x .memory }
+
+-- The accepted samples of all calls.
+abbrev pub trace : Scenario → List ℕ
+trace x = samples (x .start) (set-up x) (x .calls)
+
+-- The capture state after the writes, by the register rules alone; the spacing that its EDM gives; and the words noted at the first n samples.
+abbrev pub configured : Scenario → Capture
+configured x = noted-writes (fresh .capture) (x .writes)
+
+abbrev pub distance : Scenario → ℕ
+distance x = spacing (configured x .registers .cr)
+
+abbrev pub noted-by : Scenario → ℕ → List Noted
+noted-by x n = noted 0 (configured x) (take n (trace x))
+
+-- The premises.
+pub record Premises (x : Scenario) : Type 0 where
+  -- The memory has room for every noted word.
+  pub room : 4 * length (noted-by x (length (trace x))) ≤ length (x .memory) - x .start
+  -- Every 4·s consecutive accepted samples, counted across the calls, hold at least four bus grants.
+  pub granted : (k : ℕ) → k + depth * distance x ≤ length (trace x) → depth ≤ grants (take (depth * distance x) (drop k (trace x)))
+
+-- What is promised at a moment after n samples.
+pub record Promised (x : Scenario) (m : Moment) : Type 0 where
+  -- Overrun has never risen, and no word is lost.
+  pub no-overrun : bit 1 (m .device .capture .registers .ris) ≡ false
+  pub none-discarded : m .device .counts .discarded ≡ 0
+  -- Completed is how many words are noted.
+  pub completed : m .device .counts .completed ≡ length (noted-by x (m .count))
+  -- The first of them, as many as landed counts, stand at their bytes, and every other byte is as first lent.
+  pub in-memory : m .memory ≡ with-words (x .start) (take (m .device .counts .landed) (words (noted-by x (m .count)))) (x .memory)
+  -- The rest are held, in order.
+  pub held : contents (m .device .fifo) ≡ drop (m .device .counts .landed) (words (noted-by x (m .count)))
+  pub split : m .device .counts .landed + m .device .fifo .held ≡ length (noted-by x (m .count))
+  -- A word noted at sample t has landed if the samples have reached t + 4·s.
+  pub in-time :
+      (before : List Noted) (w : Noted) (after : List Noted) → noted-by x (m .count) ≡ before ++ w ∷ after →
+      w .sample + depth * distance x ≤ m .count → length before < m .device .counts .landed
+  -- An accepted single sample says the word noted at it, or none, and never a lost one.
+  pub answers : (p : Packed) → m .packed ≡ some p → p ≡ noted-at (m .count) (noted-by x (m .count))
+
+-- Of every element of a list.
+abbrev pub All : {A : Type 0} → (A → Type 0) → List A → Type 0
+All P [] = Unit {0}
+All P (x ∷ xs) = P x × All P xs
+
+-- Demand 3: at every moment, after every call and after every sample inside an accepted run.
+abbrev pub Delivery : Scenario → Type 0
+Delivery x = Premises x → All (Promised x) (moments (x .start) (set-up x) 0 (x .calls))

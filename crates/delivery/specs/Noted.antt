@@ -1,0 +1,58 @@
+-- The words of the claim, from the inputs alone: the register rules and rules 2 to 8, over the accepted writes and samples from reset,
+-- without grants or FIFO, note each full word with its sample's number.
+use mathlib.Core.Bool.{cond}
+use mathlib.Core.List.{List, [], _∷_, _++_, map}
+use mathlib.Core.Option.{Option, none, some}
+use Prim.Native.Nat.{ℕ, _+_}
+use lib.Dec.{eqb}
+use Rattle.registers.specs.Control.{edm}
+use Rattle.registers.specs.Map.{register-at}
+use Rattle.registers.specs.declared.Found.{Found}
+use Rattle.registers.specs.declared.Found.the-variants.{At, Nothing}
+use Rattle.rules.specs.declared.Capture.{Capture}
+use Rattle.rules.specs.Answers.{first}
+use Rattle.rules.specs.Capture.{capture-sample}
+use Rattle.rules.specs.Queue.{Packed, nothing, completed}
+use Rattle.rules.specs.RegisterCalls.{register-tests, write-register}
+use Rattle.delivery.specs.Calls.{Write}
+
+-- A register write by the register rules alone: refused by 2 to 6, or its effect.
+unfoldable pub write-found : Found → ℕ → Capture → Capture
+write-found Nothing v s = s
+write-found (At r) v s = write-register r v s
+
+unfoldable pub noted-write : Capture → Write → Capture
+noted-write s w =
+    cond (eqb (first (register-tests (s .registers .cr) (register-at (w .offset)) (w .value))) 0)
+    (write-found (register-at (w .offset)) (w .value) s)
+    s
+
+unfoldable pub noted-writes : Capture → List Write → Capture
+noted-writes s [] = s
+noted-writes s (w ∷ ws) = noted-writes (noted-write s w) ws
+
+-- A noted word and the number of its sample.
+pub record Noted : Type 0 where
+  pub word : ℕ
+  pub sample : ℕ
+
+unfoldable pub note : ℕ → Option ℕ → List Noted
+note n none = []
+note n (some v) = record { word = v; sample = n } ∷ []
+
+-- The words noted from a state at some samples, n samples being before them.
+unfoldable pub noted : ℕ → Capture → List ℕ → List Noted
+noted n s [] = []
+noted n s (w ∷ ws) = note (n + 1) (capture-sample s w .word) ++ noted (n + 1) (capture-sample s w .state) ws
+
+abbrev pub words : List Noted → List ℕ
+words ns = map (λ x. x .word) ns
+
+-- What a single sample with some number must say: the word noted at it, or none.
+unfoldable pub noted-at : ℕ → List Noted → Packed
+noted-at n [] = nothing
+noted-at n (x ∷ xs) = cond (eqb (x .sample) n) (completed (x .word)) (noted-at n xs)
+
+-- The smallest distance between noted words, s: 8 samples at 8 bits, else 4.
+unfoldable pub spacing : ℕ → ℕ
+spacing cr = cond (eqb (edm cr) 0) 8 4

@@ -1,0 +1,11 @@
+use mathlib.Core.Path.{refl}
+use Rattle.rules.specs.Run.{bad-sample}
+use Rattle.device.proofs.runs.bad_sample.Statement.{statement}
+use Rattle.device.proofs.runs.bad_sample.Tie as tie
+
+returns : tie.Need-returns
+unfolding bad-sample
+returns c = refl
+
+pub bad-sample-spec : {M : Type 1} → statement M
+bad-sample-spec = tie.close (tie.spec returns)

@@ -1,0 +1,64 @@
+use Prim.Native.Nat.{_-_}
+use borrow.Author.Needs.{needs}
+use lib.ListN.{length}
+use mathlib.Core.Path.{sym, ap}
+use native.Mathlib.Omega.{arith}
+use Rattle.device.proofs.Going.{starting, going-on, going-end, Going}
+use Rattle.rules.specs.Run.{Stepped}
+use Rattle.device.proofs.runs.steps.Statement.{statement}
+use Rattle.device.proofs.runs.steps.Tie as tie
+
+abbrev Inv-loop : tie.InvT-loop
+Inv-loop buffer₀ samples e₀ i₀ buffer e i = Going buffer₀ samples e₀ buffer e i
+
+abbrev μ-loop : tie.MeasureT-loop
+μ-loop buffer₀ samples e₀ i₀ buffer e i = length samples - i
+
+loop-holds : tie.Need-loop-holds Inv-loop μ-loop
+loop-holds c = starting _ _ _ (c .before .before .pre .0)
+
+mul-w : tie.Need-mul-w Inv-loop μ-loop
+mul-w c = search needs
+
+shared-slice-read-w : tie.Need-shared-slice-read-w Inv-loop μ-loop
+shared-slice-read-w c = omega arith
+
+step-requires : tie.Need-step-requires Inv-loop μ-loop
+step-requires c κs =
+    let g = c .before .before .before .loop .inv in
+    (g .well, omega (arith, g .count, c .before .before .loop-test .taken, c .before .before .before .before .before .before .pre .1))
+
+add-i : tie.Need-add-i Inv-loop μ-loop
+add-i c = omega (arith, c .before .before .before .before .before .before .loop-test .taken, c .before .before .before .before .before .before .before .before .before .before .good)
+
+loop-less : tie.Need-loop-less Inv-loop μ-loop
+loop-less c = omega (arith, c .before .before .before .before .before .before .loop-test .taken)
+
+loop-again : tie.Need-loop-again Inv-loop μ-loop
+loop-again c =
+    going-on (c .before .before .before .before .before .before .before .loop .inv) _ _ (c .before .before .before .before .before .before .loop-test .taken)
+    (ap (λ (x : Stepped). x .device) (c .before .before .before .step .ensures))
+    (ap (λ (x : Stepped). x .buffer) (c .before .before .before .step .ensures))
+    (c .before .before .before .step .kept .1 .0)
+
+same-length : tie.Need-same-length Inv-loop μ-loop
+same-length c = c .before .loop .inv .long
+
+returns : tie.Need-returns Inv-loop μ-loop
+returns c = sym (going-end (c .before .loop .inv) (c .loop-test .left))
+
+pub steps-spec : {M : Type 1} → statement M
+steps-spec =
+    tie.close
+    (tie.spec
+    Inv-loop
+    μ-loop
+    loop-holds
+    mul-w
+    shared-slice-read-w
+    step-requires
+    add-i
+    loop-less
+    loop-again
+    same-length
+    returns)

@@ -1,0 +1,138 @@
+// A run of samples, and one sample, over the lent memory from a start byte on.
+ghost use mathlib.Core.Path.{_≡_};
+ghost use mathlib.Core.Option.{some};
+ghost use Prim.Native.Nat.{ℕ, _+_, _<_, _^_};
+ghost use lib.Dec.{ltb};
+ghost use lib.ListN.{length};
+ghost use Rattle.rules.specs.Run as rules;
+ghost use Rattle.rules.proofs.WellFormed.{WellFormed};
+ghost use Rattle.sampling.specs.Answers.{landing};
+ghost use Rattle.device.specs.Answers as answers;
+use crate::Outcome;
+use crate::Refusal;
+use crate::Reply;
+use crate::Sampled;
+use crate::Written;
+use crate::well_formed::malformed;
+use rules::Device;
+use sampling::Landing;
+use sampling::step;
+
+// Whether a sample has a bit above 17.
+fn bad_sample(w: u32) -> bool
+    ensures { λ r. ⌜ r ≡ rules.bad-sample w ⌝ }
+{
+    262144 <= w
+}
+
+fn any_bad(samples: &[u32]) -> bool
+    ensures { λ r. ⌜ r ≡ rules.any-bad (now (samples .entry)) ⌝ }
+{
+    let mut i = 0;
+    while i < samples.len() {
+        if bad_sample(samples[i]) {
+            return true;
+        }
+        i += 1;
+    }
+    false
+}
+
+// Whether the samples in all would pass 4,294,967,295.
+fn too_many(before: u32, samples: &[u32]) -> bool
+    ensures { λ r. ⌜ r ≡ ltb 4294967295 (before + length (now (samples .entry))) ⌝ }
+{
+    4294967295 < before as usize + samples.len()
+}
+
+// A run's refusals 1, 9, 7, 8 in order.
+fn run_refusal(d: Device, memory: &[u8], start: usize, samples: &[u32]) -> Outcome
+    ensures { λ r. ⌜ answers.outcome r ≡ rules.run-refusal d (now (memory .entry)) start (now (samples .entry)) ⌝ }
+{
+    if malformed(d) {
+        return Outcome::Refused(Refusal::Malformed);
+    }
+    if memory.len() < start {
+        return Outcome::Refused(Refusal::StartBeyond);
+    }
+    if any_bad(samples) {
+        return Outcome::Refused(Refusal::SampleBits);
+    }
+    if too_many(d.counts.samples, samples) {
+        return Outcome::Refused(Refusal::SampleCount);
+    }
+    Outcome::Accepted
+}
+
+// The samples in order, with no more tests of them.
+fn steps(d: Device, buffer: &mut [u8], samples: &[u32]) -> Device
+    requires { ⌜ WellFormed d ⌝ }
+    requires { ⌜ d .counts .samples + length (now samples) < 2 ^ 32 ⌝ }
+    ensures { λ r. ⌜ answers.stepped r (now (buffer .exit)) ≡ rules.steps d (now (buffer .entry)) (now (samples .entry)) ⌝ }
+{
+    let mut e = d;
+    let mut i = 0;
+    while i < samples.len() {
+        let w = samples[i];
+        let after = step(e, buffer, w);
+        e = after.device;
+        i += 1;
+    }
+    e
+}
+
+// A run: refused, or the samples in order over the frame buffer, the part of memory from the start byte to its end.
+pub fn run(d: Device, memory: &mut [u8], start: usize, samples: &[u32]) -> Written
+    ensures { λ r. ⌜ answers.ran r (now (memory .exit)) ≡ rules.run d (now (memory .entry)) start (now (samples .entry)) ⌝ }
+{
+    let outcome = run_refusal(d, memory, start, samples);
+    match outcome {
+        Outcome::Refused(refusal) => Written {
+            device: d,
+            outcome: Outcome::Refused(refusal),
+        },
+        Outcome::Accepted => {
+            let device = steps(d, &mut memory[start..], samples);
+            Written {
+                device,
+                outcome: Outcome::Accepted,
+            }
+        }
+    }
+}
+
+// A byte of the frame buffer as a byte of the lent memory.
+fn in_memory(start: usize, place: Landing) -> Landing
+    requires { ⌜ ((b : ℕ) → landing place ≡ some b → start + b < 2 ^ 64) ⌝ }
+    ensures { λ r. ⌜ landing r ≡ rules.in-memory start (landing place) ⌝ }
+{
+    match place {
+        Landing::Nowhere => Landing::Nowhere,
+        Landing::At(byte) => Landing::At(start + byte),
+    }
+}
+
+// One sample: refused as a run of it is, or its two answers.
+pub fn sample(d: Device, memory: &mut [u8], start: usize, w: u32) -> Sampled
+    ensures { λ r. ⌜ answers.sampled r (now (memory .exit)) ≡ rules.sample d (now (memory .entry)) start w ⌝ }
+{
+    let one = [w];
+    let outcome = run_refusal(d, memory, start, &one);
+    match outcome {
+        Outcome::Refused(refusal) => Sampled {
+            device: d,
+            reply: Reply::Refused(refusal),
+        },
+        Outcome::Accepted => {
+            let after = step(d, &mut memory[start..], w);
+            let place = after.landing;
+            let landing = in_memory(start, place);
+            let packing = after.packing;
+            let device = after.device;
+            Sampled {
+                device,
+                reply: Reply::Answered(landing, packing),
+            }
+        }
+    }
+}

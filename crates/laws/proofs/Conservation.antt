@@ -1,0 +1,33 @@
+-- From reset no list of calls reaches a malformed device, and completed = landed + held + discarded after every one.
+-- The idea: each call keeps a well-formed device so, and the equation is one of its facts. Assumes nothing.
+use mathlib.Core.Bool.{false}
+use mathlib.Core.List.{List, [], _∷_}
+use mathlib.Core.Path.{_≡_}
+use Prim.Native.Nat.{_+_}
+use Rattle.rules.specs.declared.Device.{Device}
+use Rattle.rules.specs.WellFormed.{malformed}
+use Rattle.rules.proofs.WellFormed.{facts}
+use Rattle.laws.specs.Histories.{Call, a-write, a-rearming, a-run, a-sample, after, after-all, reached}
+use Rattle.laws.proofs.Keeps.{fresh-well-formed, run-keeps, sample-keeps}
+use Rattle.laws.proofs.KeepsWrites.{write-keeps, rearm-keeps}
+
+pub call-keeps : (d : Device) (c : Call) → malformed d ≡ false → malformed (after d c) ≡ false
+unfolding after
+call-keeps d (a-write offset value fits) e = write-keeps d offset value fits e
+call-keeps d a-rearming e = rearm-keeps d e
+call-keeps d (a-run memory start samples) e = run-keeps d memory start samples e
+call-keeps d (a-sample memory start w) e = sample-keeps d memory start w e
+
+calls-keep : (d : Device) (cs : List Call) → malformed d ≡ false → malformed (after-all d cs) ≡ false
+unfolding after-all
+calls-keep d [] e = e
+calls-keep d (c ∷ cs) e = calls-keep (after d c) cs (call-keeps d c e)
+
+-- No accepted call from reset makes a malformed device.
+pub never-malformed : (cs : List Call) → malformed (reached cs) ≡ false
+never-malformed cs = calls-keep _ cs fresh-well-formed
+
+-- The counts balance.
+pub conservation : (cs : List Call)
+    → reached cs .counts .completed ≡ reached cs .counts .landed + reached cs .fifo .held + reached cs .counts .discarded
+conservation cs = facts (reached cs) (never-malformed cs) .queue .equation

@@ -1,0 +1,81 @@
+-- What the calls inside a sample ask of their devices: the FIFO's slots as a list of four, what a landing's test tells, and what rule 1 leaves.
+-- The idea: cases on the test. Assumes nothing.
+use mathlib.Core.Bool.{true, _&&_}
+use mathlib.Core.List.{List, [], _∷_, _++_}
+use mathlib.Core.Path.{_≡_, refl}
+use Prim.Native.Nat.{ℕ, _+_, _*_, _≤_, _<_}
+use native.Mathlib.Omega.{arith}
+use lib.Dec.{ltb, leb}
+use lib.ListN.{length, getD, drop, drop-of-length-le}
+use lib.Seq.{drop-cons}
+use borrow.Author.Tests.{ltb-true, leb-true}
+use Rattle.registers.specs.Control.{enable}
+use Rattle.rules.specs.declared.Capture.{Capture}
+use Rattle.rules.specs.declared.Device.{Device}
+use Rattle.rules.specs.Capture.{bus-grant}
+use Rattle.rules.specs.Queue.{pop, room, lands, landed, grant}
+use Rattle.rules.specs.Run.{count-sample}
+use Rattle.rules.proofs.Booleans.{and-true, either}
+use Rattle.rules.proofs.WellFormed.{CaptureOk, WellFormed}
+
+-- The slots after the first, and a 0, of four.
+pub moved-down : (xs : List ℕ) → length xs ≡ 4 → getD xs 1 0 ∷ getD xs 2 0 ∷ getD xs 3 0 ∷ 0 ∷ [] ≡ drop 1 xs ++ (0 ∷ [])
+moved-down xs e =
+    let one : 1 < length xs = omega arith in
+    let two : 2 < length xs = omega arith in
+    let three : 3 < length xs = omega arith in
+    let all : length xs ≤ 4 = omega arith in
+    rw (drop-cons xs 1 0 one, drop-cons xs 2 0 two, drop-cons xs 3 0 three, drop-of-length-le xs all)
+
+-- A landing: a word is held, and its bytes exist.
+pub lands-held : (d : Device) (b : List ℕ) (w : ℕ) → lands d b w ≡ true → (0 < d .fifo .held) × (4 * d .place + 4 ≤ length b)
+unfolding lands room
+lands-held d b w e =
+    let (rest, fits) = and-true (bus-grant w && enable (d .capture .registers .cr) && ltb 0 (d .fifo .held)) (leb (4 * d .place + 4) (length b)) e in
+    let (on, held) = and-true (bus-grant w && enable (d .capture .registers .cr)) (ltb 0 (d .fifo .held)) rest in
+    (ltb-true 0 (d .fifo .held) held, leb-true (4 * d .place + 4) (length b) fits)
+
+pub more-lines : {m n : ℕ} {s : Capture} → m ≤ n → CaptureOk m s → CaptureOk n s
+more-lines le h =
+    record {
+      unused = h .unused;
+      short = h .short;
+      allowed = h .allowed;
+      ris = h .ris;
+      ier = h .ier;
+      idle = h .idle;
+      inside = h .inside;
+      rate = h .rate;
+      lines = omega (arith, h .lines);
+      pixels = omega (arith, h .pixels);
+    }
+
+pub counted : {d : Device} → WellFormed d → WellFormed (count-sample d)
+unfolding count-sample
+counted h =
+    record {
+      capture = more-lines (omega arith) (h .capture);
+      queue =
+          record {
+            held = h .queue .held;
+            clear = h .queue .clear;
+            idle = h .queue .idle;
+            completed = omega (arith, h .queue .completed);
+            place = h .queue .place;
+            equation = h .queue .equation;
+          };
+    }
+
+-- Rule 1 leaves the capture state and the words completed and discarded, and holds no more than before.
+pub record Left (d e : Device) : Type 0 where
+  pub capture : e .capture ≡ d .capture
+  pub completed : e .counts .completed ≡ d .counts .completed
+  pub discarded : e .counts .discarded ≡ d .counts .discarded
+  pub held : e .fifo .held ≤ d .fifo .held
+
+pub grant-leaves : (d : Device) (b : List ℕ) (w : ℕ) → Left d (grant d b w .device)
+unfolding grant landed pop
+grant-leaves d b w =
+    either (λ (g : Rattle.rules.specs.Queue.Granted). Left d (g .device)) (lands d b w)
+    (record { capture = refl; completed = refl; discarded = refl; held = omega arith })
+    (record { capture = refl; completed = refl; discarded = refl; held = omega arith })

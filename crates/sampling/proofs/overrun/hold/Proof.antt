@@ -1,0 +1,15 @@
+use borrow.Author.Needs.{needs}
+use Rattle.rules.specs.Queue.{hold}
+use Rattle.sampling.proofs.overrun.hold.Statement.{statement}
+use Rattle.sampling.proofs.overrun.hold.Tie as tie
+
+push-requires : tie.Need-push-requires
+push-requires c κs = search needs
+
+returns : tie.Need-returns
+unfolding hold
+returns c =
+    rw (← c .push .ensures)
+
+pub hold-spec : {M : Type 1} → statement M
+hold-spec = tie.close (tie.spec push-requires returns)

@@ -1,0 +1,62 @@
+// The FIFO: the held words stand in the first slots, oldest first.
+ghost use mathlib.Core.Path.{_≡_};
+ghost use Prim.Native.Nat.{_+_, _<_, _^_};
+ghost use mathlib.Core.List.{[], _∷_, _++_};
+ghost use lib.ListN.{drop, getD};
+ghost use Rattle.rules.specs.State as state;
+ghost use Rattle.rules.specs.Queue as rules;
+use rules::Device;
+use rules::Fifo;
+
+// The oldest held word.
+pub fn oldest(f: Fifo) -> u32
+    ensures { λ r. ⌜ r ≡ getD (f .slots) 0 0 ⌝ }
+{
+    let slots = f.slots;
+    slots[0]
+}
+
+// The slots moved down by one.
+fn moved(slots: [u32; 4]) -> [u32; 4]
+    ensures { λ r. ⌜ r ≡ drop 1 slots ++ (0 ∷ []) ⌝ }
+{
+    [slots[1], slots[2], slots[3], 0]
+}
+
+// The oldest word leaves.
+pub fn pop(f: Fifo) -> Fifo
+    requires { ⌜ 0 < f .held ⌝ }
+    ensures { λ r. ⌜ r ≡ rules.pop f ⌝ }
+{
+    let before = f.slots;
+    let slots = moved(before);
+    let held = f.held - 1;
+    Fifo { slots, held }
+}
+
+// A word is taken in behind the others.
+pub fn push(v: u32, f: Fifo) -> Fifo
+    requires { ⌜ f .held < 4 ⌝ }
+    ensures { λ r. ⌜ r ≡ rules.push v f ⌝ }
+{
+    let mut slots = f.slots;
+    let at = f.held as usize;
+    slots[at] = v;
+    let held = f.held + 1;
+    Fifo { slots, held }
+}
+
+// The held words and `more` besides are discarded.
+pub fn discard(more: u32, mut d: Device) -> Device
+    requires { ⌜ d .counts .discarded + d .fifo .held + more < 2 ^ 32 ⌝ }
+    ensures { λ r. ⌜ r ≡ rules.discard more d ⌝ }
+{
+    let discarded = d.counts.discarded + d.fifo.held + more;
+    let empty = Fifo {
+        slots: [0; 4],
+        held: 0,
+    };
+    d.counts.discarded = discarded;
+    d.fifo = empty;
+    d
+}
