@@ -1,3 +1,5 @@
+-- `capture::capture_sample` meets its contract. Assumes nothing.
+-- Each return unfolds the definition and rewrites by what the calls gave and by the tests on the way there.
 use borrow.Author.Needs.{needs}
 use Rattle.rules.specs.Capture.{capture-sample, no-word}
 use Rattle.capture.proofs.capture_sample.Statement.{statement}

@@ -1,3 +1,5 @@
+-- `capture::with_scan` meets its contract. Assumes nothing.
+-- Each return unfolds the definition and rewrites by what the calls gave and by the tests on the way there.
 use mathlib.Core.Path.{refl}
 use Rattle.rules.specs.State.{with-frame}
 use Rattle.capture.proofs.with_scan.Statement.{statement}

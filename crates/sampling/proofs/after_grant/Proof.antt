@@ -1,3 +1,5 @@
+-- `sampling::after_grant` meets its contract. Assumes nothing.
+-- Each return unfolds the definition and rewrites by what the calls gave and by the tests on the way there.
 use borrow.Author.Needs.{needs}
 use mathlib.Core.Path.{ap}
 use Rattle.laws.proofs.KeepsCapture.{captured-ok}

@@ -1,3 +1,5 @@
+-- `sampling::step` meets its contract. Assumes nothing.
+-- Each return unfolds the definition and rewrites by what the calls gave and by the tests on the way there.
 use Rattle.rules.specs.Queue.{Granted}
 use borrow.Author.Needs.{needs}
 use mathlib.Core.Path.{ap}

@@ -1,3 +1,5 @@
+-- `capture::frame::clear_capture` meets its contract. Assumes nothing.
+-- Each return unfolds the definition and rewrites by what the calls gave and by the tests on the way there.
 use borrow.Author.Needs.{needs}
 use Rattle.rules.specs.State.{with-cr, with-registers, clear-capture}
 use Rattle.capture.proofs.frame.clear_capture.Statement.{statement}

@@ -1,3 +1,5 @@
+-- `capture::frame::close_frame` meets its contract. Assumes nothing.
+-- Each return unfolds the definition and rewrites by what the calls gave and by the tests on the way there.
 use mathlib.Core.Path.{refl}
 use Rattle.rules.specs.State.{close-frame, with-frame, with-partial}
 use Rattle.capture.proofs.frame.close_frame.Statement.{statement}

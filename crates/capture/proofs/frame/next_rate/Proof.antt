@@ -1,3 +1,5 @@
+-- `capture::frame::next_rate` meets its contract. Assumes nothing.
+-- Each return unfolds the definition and rewrites by what the calls gave and by the tests on the way there.
 use borrow.Author.Needs.{needs}
 use Rattle.laws.proofs.KeepsFrame.{period-positive}
 use Rattle.rules.specs.Capture.{next-rate}

@@ -1,3 +1,5 @@
+-- `capture::frame::takes` meets its contract. Assumes nothing.
+-- Each return unfolds the definition and rewrites by what the calls gave and by the tests on the way there.
 use borrow.Author.Needs.{needs}
 use Rattle.capture.proofs.frame.takes.Statement.{statement}
 use Rattle.capture.proofs.frame.takes.Tie as tie

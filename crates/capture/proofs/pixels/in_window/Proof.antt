@@ -1,3 +1,5 @@
+-- `capture::pixels::in_window` meets its contract. Assumes nothing.
+-- Each return unfolds the definition and rewrites by what the calls gave and by the tests on the way there.
 use borrow.Author.Needs.{needs}
 use Rattle.rules.specs.Capture.{in-window}
 use Rattle.capture.proofs.pixels.in_window.Statement.{statement}

@@ -1,3 +1,5 @@
+-- `capture::pixels::line_begins` meets its contract. Assumes nothing.
+-- Each return unfolds the definition and rewrites by what the calls gave and by the tests on the way there.
 use Rattle.rules.specs.Capture.{line-begins}
 use Rattle.capture.proofs.pixels.line_begins.Statement.{statement}
 use Rattle.capture.proofs.pixels.line_begins.Tie as tie

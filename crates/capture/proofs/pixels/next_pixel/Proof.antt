@@ -1,3 +1,5 @@
+-- `capture::pixels::next_pixel` meets its contract. Assumes nothing.
+-- Each return unfolds the definition and rewrites by what the calls gave and by the tests on the way there.
 use borrow.Author.Needs.{needs}
 use Rattle.rules.specs.Capture.{next-pixel}
 use Rattle.capture.proofs.pixels.next_pixel.Statement.{statement}

@@ -1,3 +1,5 @@
+-- `capture::syncs::sync_flags` meets its contract. Assumes nothing.
+-- Each return unfolds the definition and rewrites by what the calls gave and by the tests on the way there.
 use borrow.Author.Needs.{needs}
 use Rattle.capture.proofs.Laws.{vsync-flag-ris}
 use Rattle.rules.specs.Capture.{sync-flags}

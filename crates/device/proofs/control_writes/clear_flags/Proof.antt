@@ -1,3 +1,5 @@
+-- `device::control_writes::clear_flags` meets its contract. Assumes nothing.
+-- Each return unfolds the definition and rewrites by what the calls gave and by the tests on the way there.
 use lib.Bits.{and-le-l}
 use mathlib.Core.Path.{refl}
 use Rattle.rules.specs.RegisterCalls.{clear-flags}

@@ -1,3 +1,5 @@
+-- `device::control_writes::disables` meets its contract. Assumes nothing.
+-- Each return unfolds the definition and rewrites by what the calls gave and by the tests on the way there.
 use borrow.Author.Needs.{needs}
 use Rattle.device.proofs.control_writes.disables.Statement.{statement}
 use Rattle.device.proofs.control_writes.disables.Tie as tie

@@ -1,3 +1,5 @@
+-- `device::control_writes::disabling` meets its contract. Assumes nothing.
+-- Each return unfolds the definition and rewrites by what the calls gave and by the tests on the way there.
 use mathlib.Core.Path.{refl}
 use Rattle.rules.specs.RegisterCalls.{disabling}
 use Rattle.rules.specs.State.{with-partial, with-frame, close-frame, with-rate}

@@ -1,3 +1,5 @@
+-- `device::control_writes::enabling` meets its contract. Assumes nothing.
+-- Each return unfolds the definition and rewrites by what the calls gave and by the tests on the way there.
 use mathlib.Core.Path.{refl}
 use Rattle.rules.specs.RegisterCalls.{enabling}
 use Rattle.rules.specs.State.{with-frame, with-rate, with-syncs}

@@ -1,3 +1,5 @@
+-- `device::control_writes::switch_capture` meets its contract. Assumes nothing.
+-- Each return unfolds the definition and rewrites by what the calls gave and by the tests on the way there.
 use Rattle.rules.specs.RegisterCalls.{switch-capture}
 use Rattle.rules.specs.State.{with-rate}
 use Rattle.device.proofs.control_writes.switch_capture.Statement.{statement}

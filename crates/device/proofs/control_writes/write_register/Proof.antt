@@ -1,3 +1,5 @@
+-- `device::control_writes::write_register` meets its contract. Assumes nothing.
+-- Each return unfolds the definition and rewrites by what the calls gave and by the tests on the way there.
 use borrow.Author.Needs.{needs}
 use Rattle.rules.specs.RegisterCalls.{write-register}
 use Rattle.rules.specs.State.{with-cwsize, with-cwstrt, with-ier, with-registers}

@@ -1,3 +1,5 @@
+-- `device::register_calls::changes_setup` meets its contract. Assumes nothing.
+-- Each return unfolds the definition and rewrites by what the calls gave and by the tests on the way there.
 use borrow.Author.Tests.{eq-eqb, ne-eqb}
 use Rattle.rules.specs.RegisterCalls.{changes-setup}
 use Rattle.device.proofs.register_calls.changes_setup.Statement.{statement}

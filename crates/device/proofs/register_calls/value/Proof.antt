@@ -1,3 +1,5 @@
+-- `device::register_calls::value` meets its contract. Assumes nothing.
+-- Each return unfolds the definition and rewrites by what the calls gave and by the tests on the way there.
 use borrow.Author.Needs.{needs}
 use Rattle.rules.specs.RegisterCalls.{value, masked}
 use Rattle.device.proofs.register_calls.value.Statement.{statement}

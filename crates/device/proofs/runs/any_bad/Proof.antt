@@ -1,3 +1,5 @@
+-- `device::runs::any_bad` meets its contract. Assumes nothing.
+-- The loop keeps that a sample is bad exactly if one of those from i on is.
 use Prim.Native.Nat.{_≤_, _-_, ℕ, _<_}
 use borrow.Author.Needs.{needs}
 use lib.ListN.{length, drop-of-length-le, drop}

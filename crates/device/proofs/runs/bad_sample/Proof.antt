@@ -1,3 +1,5 @@
+-- `device::runs::bad_sample` meets its contract. Assumes nothing.
+-- Each return unfolds the definition and rewrites by what the calls gave and by the tests on the way there.
 use mathlib.Core.Path.{refl}
 use Rattle.rules.specs.Run.{bad-sample}
 use Rattle.device.proofs.runs.bad_sample.Statement.{statement}

@@ -1,14 +1,14 @@
-use Rattle.rules.specs.Run.{Stepped}
+-- `device::runs::sample` meets its contract. Assumes nothing.
+-- Each return unfolds the definition and rewrites by what the calls gave and by the tests on the way there.
 use borrow.Author.Needs.{needs}
 use lib.ListN.{length-drop, drop}
 use mathlib.Core.List.{_∷_, []}
 use mathlib.Core.Path.{_∙_, ap, sym}
 use native.Mathlib.Omega.{arith}
 use Rattle.device.proofs.AcceptedRuns.{tail-part, put-tail, landing-within, accepted-run, refused}
-use Rattle.device.specs.Answers.{stepped, outcome}
+use Rattle.device.specs.Answers.{outcome}
 use Rattle.rules.proofs.WellFormed.{facts}
-use Rattle.rules.specs.Capture.{within}
-use Rattle.rules.specs.Run.{Stepped, sample, run}
+use Rattle.rules.specs.Run.{Stepped, sample}
 use Rattle.device.proofs.runs.sample.Statement.{statement}
 use Rattle.device.proofs.runs.sample.Tie as tie
 

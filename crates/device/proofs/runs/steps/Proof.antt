@@ -1,3 +1,5 @@
+-- `device::runs::steps` meets its contract. Assumes nothing.
+-- The loop keeps `Going`: what is left of the samples leads to the same end. Each turn is one step of the rules.
 use Prim.Native.Nat.{_-_}
 use borrow.Author.Needs.{needs}
 use lib.ListN.{length}

@@ -1,3 +1,5 @@
+-- `device::well_formed::all_zero` meets its contract. Assumes nothing.
+-- The loop keeps that the slots from the first on are all 0 exactly if those from i on are.
 use Prim.Native.Nat.{ℕ, _-_, _<_, _≤_}
 use borrow.Author.Tests.{eq-eqb, ne-eqb}
 use lib.ListN.{drop, length, drop-of-length-le}

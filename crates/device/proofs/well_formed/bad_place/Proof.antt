@@ -1,3 +1,5 @@
+-- `device::well_formed::bad_place` meets its contract. Assumes nothing.
+-- Each return unfolds the definition and rewrites by what the calls gave and by the tests on the way there.
 use mathlib.Core.Path.{refl}
 use Rattle.rules.specs.WellFormed.{bad-place}
 use Rattle.device.proofs.well_formed.bad_place.Statement.{statement}

@@ -1,3 +1,5 @@
+-- `registers::Register::at` meets its contract. Assumes nothing.
+-- Each return unfolds the definition and rewrites by what the calls gave and by the tests on the way there.
 use borrow.Author.Tests.{ne-eqb}
 use Rattle.registers.specs.Map.{register-at}
 use Rattle.registers.proofs.Register.at.Statement.{statement}

@@ -1,3 +1,5 @@
+-- `sampling::fifo::moved` meets its contract. Assumes nothing.
+-- Each return unfolds the definition and rewrites by what the calls gave and by the tests on the way there.
 use borrow.Author.Needs.{needs}
 use Rattle.sampling.proofs.Laws.{moved-down}
 use Rattle.sampling.proofs.fifo.moved.Statement.{statement}
