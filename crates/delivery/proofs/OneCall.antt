@@ -9,11 +9,12 @@ use native.Mathlib.Omega.{arith}
 use lib.Dec.{eqb, ltb}
 use lib.ListN.{length, take, drop}
 use borrow.Author.Tests.{eqb-true, ltb-false}
-use Rattle.rules.specs.Answers.{_⇒_, refused, answered}
+use Rattle.refusals.specs.Refusals.{_⇒_}
+use Rattle.rules.specs.Answers.{refused, answered}
 use Rattle.rules.specs.Queue.{Packed}
 use Rattle.rules.specs.WellFormed.{malformed}
 use Rattle.rules.specs.Run.{step, Ran, steps, any-bad, run-refusal, run, SampleAnswer, sample}
-use Rattle.laws.proofs.Accepted.{accepted as passed}
+use Rattle.refusals.proofs.Accepted.{accepted as passed}
 use Rattle.delivery.specs.Calls.{Call, a-run, a-sample, brings, System, accepted, after-call, said, says}
 
 -- Device and frame buffer after some samples; device and memory.

@@ -15,7 +15,7 @@ use Rattle.registers.specs.declared.Found.{Found}
 use Rattle.registers.specs.declared.Found.the-variants.{At, Nothing}
 use Rattle.rules.specs.declared.Capture.{Capture}
 use Rattle.rules.specs.State.{close-frame, with-cr, with-ris, with-ier, with-cwstrt, with-cwsize, with-registers, with-syncs, with-frame, with-rate, with-partial}
-use Rattle.rules.specs.Answers.{first}
+use Rattle.refusals.specs.Refusals.{first}
 use Rattle.rules.specs.Capture.{capture-sample}
 use Rattle.rules.specs.RegisterCalls.{register-tests, enabling, disabling, switch-enable, capture-rises, switch-capture, write-control, clear-flags, write-register}
 use Rattle.rules.proofs.Booleans.{either}

@@ -14,7 +14,7 @@ use Rattle.rules.specs.declared.Fifo.{Fifo}
 use Rattle.rules.specs.declared.Counts.{Counts}
 use Rattle.rules.specs.declared.Device.{Device}
 use Rattle.rules.specs.State.{fresh, empty, with-capture}
-use Rattle.rules.specs.Answers.{first}
+use Rattle.refusals.specs.Refusals.{first}
 use Rattle.rules.specs.Queue.{discard}
 use Rattle.rules.specs.RegisterCalls.{disables, register-tests, write-refusal, write-at, write}
 use Rattle.rules.specs.WellFormed.{malformed}

@@ -10,7 +10,7 @@ use Rattle.registers.specs.Map.{register-at}
 use Rattle.registers.specs.declared.Found.{Found}
 use Rattle.registers.specs.declared.Found.the-variants.{At, Nothing}
 use Rattle.rules.specs.declared.Capture.{Capture}
-use Rattle.rules.specs.Answers.{first}
+use Rattle.refusals.specs.Refusals.{first}
 use Rattle.rules.specs.Capture.{capture-sample}
 use Rattle.rules.specs.Queue.{Packed, nothing, completed}
 use Rattle.rules.specs.RegisterCalls.{register-tests, write-register}

@@ -12,13 +12,13 @@ use lib.Seq.{take-all}
 use borrow.Author.Tests.{ltb-false}
 use borrow.Rule.Slice.PartMut.{putMid}
 use Rattle.rules.specs.declared.Device.{Device}
-use Rattle.rules.specs.Answers.{Test, _⇒_}
+use Rattle.refusals.specs.Refusals.{Test, _⇒_}
 use Rattle.rules.specs.Queue.{lands, Granted, grant}
 use Rattle.rules.specs.WellFormed.{malformed}
 use Rattle.rules.proofs.Booleans.{by-cond}
 use Rattle.sampling.proofs.Laws.{lands-held}
 use Rattle.rules.specs.Run.{any-bad, run-refusal, count-sample, step}
-use Rattle.laws.proofs.Accepted.{accepted}
+use Rattle.refusals.proofs.Accepted.{accepted}
 use Rattle.device.specs.Answers.{number}
 use Rattle.device.specs.declared.Refusal.{Refusal}
 use Rattle.device.specs.declared.Refusal.the-variants.{Malformed, NoRegister, AccessKind, ReservedBit, Unsupported, Enabled, SampleBits, SampleCount, StartBeyond}

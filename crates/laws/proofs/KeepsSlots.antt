@@ -13,7 +13,7 @@ use Rattle.registers.specs.declared.Found.the-variants.{At, Nothing}
 use Rattle.rules.specs.declared.Device.{Device}
 use Rattle.rules.specs.State.{depth, fresh, with-capture}
 use Rattle.rules.specs.Queue.{pop, push, lands, Granted, landed, grant, discard, Completed, count-word, hold, overrun, full-word, complete}
-use Rattle.rules.specs.Answers.{_⇒_, first}
+use Rattle.refusals.specs.Refusals.{_⇒_, first}
 use Rattle.rules.specs.WellFormed.{malformed}
 use Rattle.rules.specs.RegisterCalls.{disables, write-at, write-refusal, write, rearmed, rearm}
 use Rattle.rules.specs.Run.{count-sample, after-grant, step, steps, run-refusal, run, sample}

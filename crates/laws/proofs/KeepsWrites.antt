@@ -18,7 +18,7 @@ use Rattle.rules.specs.declared.Capture.{Capture}
 use Rattle.rules.specs.declared.Device.{Device}
 use Rattle.rules.specs.State.{with-cr, with-ris, with-ier, with-cwstrt, with-cwsize, with-registers, with-capture}
 use Rattle.rules.specs.Queue.{discard}
-use Rattle.rules.specs.Answers.{_⇒_, first}
+use Rattle.refusals.specs.Refusals.{_⇒_, first}
 use Rattle.rules.specs.WellFormed.{malformed, excluded}
 use Rattle.rules.specs.RegisterCalls.{reserved-at, unsupported-at, fixed-at, register-tests, write-refusal, write-control, clear-flags, write-register, write-at, write, rearmed, rearm}
 use Rattle.rules.proofs.Booleans.{and-false-left, not-is-true, by-cond, either}
@@ -26,7 +26,7 @@ use Rattle.rules.proofs.WellFormed.{CaptureOk, WellFormed, facts, well-formed}
 use Rattle.laws.proofs.RegisterValues.{allowed, not-excluded}
 use Rattle.laws.proofs.CaptureParts.{registers-ok}
 use Rattle.laws.proofs.KeepsQueue.{around, discard-ok}
-use Rattle.laws.proofs.Accepted.{accepted}
+use Rattle.refusals.proofs.Accepted.{accepted}
 use Rattle.laws.proofs.WriteControl.{write-control-ok}
 
 -- The capture state after a write that leaves CR.

@@ -1,4 +1,3 @@
-pub mod Accepted
 pub mod CaptureParts
 pub mod FifoSlots
 pub mod Keeps

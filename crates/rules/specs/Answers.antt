@@ -1,23 +1,8 @@
 -- What calls answer, and how a refusal is found (document 01, "Refusal numbers").
-use mathlib.Core.Bool.{Bool, cond}
-use mathlib.Core.List.{List, [], _∷_}
+use mathlib.Core.Bool.{cond}
 use Prim.Native.Nat.{ℕ}
 use lib.Dec.{eqb}
 use Rattle.rules.specs.declared.Device.{Device}
-
--- A refusal number and when it is given.
-pub record Test : Type 0 where
-  pub fails : Bool
-  pub number : ℕ
-
-abbrev pub _⇒_ : Bool → ℕ → Test
-fails ⇒ number = record { fails = fails; number = number }
-
-infix 68 _⇒_
--- The number of the first test that fails, from the top; 0 where none does: the call is accepted.
-abbrev pub first : List Test → ℕ
-first [] = 0
-first (t ∷ ts) = cond (t .fails) (t .number) (first ts)
 
 -- A call that answers a value: a refusal returns its number and no value.
 pub data Answer (A : Type 0) : Type 0 where

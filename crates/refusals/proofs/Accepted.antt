@@ -5,7 +5,7 @@ use mathlib.Core.List.{List, [], _∷_}
 use mathlib.Core.Path.{_≡_, refl}
 use Prim.Native.Nat.{ℕ, _<_}
 use native.Mathlib.Omega.{arith}
-use Rattle.rules.specs.Answers.{Test, first}
+use Rattle.refusals.specs.Refusals.{Test, first}
 
 -- Every test has a number above 0; every test is passed.
 abbrev pub Numbered : List Test → Type 0

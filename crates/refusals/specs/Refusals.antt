@@ -1,0 +1,18 @@
+-- How a refusal is found (document 01, "Refusal numbers"): tests in the paper's order, read from the top.
+use mathlib.Core.Bool.{Bool, cond}
+use mathlib.Core.List.{List, [], _∷_}
+use Prim.Native.Nat.{ℕ}
+
+-- A refusal number and when it is given.
+pub record Test : Type 0 where
+  pub fails : Bool
+  pub number : ℕ
+
+abbrev pub _⇒_ : Bool → ℕ → Test
+fails ⇒ number = record { fails = fails; number = number }
+
+infix 68 _⇒_
+-- The number of the first test that fails, from the top; 0 where none does: the call is accepted.
+abbrev pub first : List Test → ℕ
+first [] = 0
+first (t ∷ ts) = cond (t .fails) (t .number) (first ts)

@@ -1,0 +1,2 @@
+// How a call's refusal is found: its tests in order, and the number of the first that fails. There is no code here; the crates above
+// cite specs/ and proofs/.

@@ -1,0 +1,60 @@
+-- A number and its little-endian bytes: each gives the other back, and n bytes hold what is below 256 ^ n.
+-- The idea: by induction on the bytes, the lowest being x % 256 and the rest those of x / 256. Assumes nothing.
+use mathlib.Core.List.{List, [], _∷_, _++_}
+use mathlib.Core.Path.{_≡_, refl, ap}
+use Prim.Native.Nat.{ℕ, zero, suc, _+_, _*_, _/_, _%_, _^_, _<_}
+use native.Mathlib.Nat.{pow-succ'}
+use native.Mathlib.Omega.{arith}
+use lib.ListN.{length, take, drop}
+use Rattle.trace.specs.Format.{little}
+use Rattle.trace.specs.Reading.{number}
+
+-- Every number in the list is a byte.
+abbrev pub Bytes : List ℕ → Type 0
+Bytes [] = Unit {0}
+Bytes (b ∷ bs) = (b < 256) × Bytes bs
+
+pub bytes-append : (cs bs : List ℕ) → Bytes cs → Bytes bs → Bytes (cs ++ bs)
+bytes-append [] bs p q = q
+bytes-append (c ∷ cs) bs p q = (p .0, bytes-append cs bs (p .1) q)
+
+pub bytes-take : (n : ℕ) (bs : List ℕ) → Bytes bs → Bytes (take n bs)
+bytes-take zero bs p = tt
+bytes-take (suc n) [] p = tt
+bytes-take (suc n) (b ∷ bs) p = (p .0, bytes-take n bs (p .1))
+
+pub bytes-drop : (n : ℕ) (bs : List ℕ) → Bytes bs → Bytes (drop n bs)
+bytes-drop zero bs p = p
+bytes-drop (suc n) [] p = tt
+bytes-drop (suc n) (b ∷ bs) p = bytes-drop n bs (p .1)
+
+pub length-little : (n x : ℕ) → length (little n x) ≡ n
+unfolding little
+length-little zero x = refl
+length-little (suc n) x = ap suc (length-little n (x / 256))
+
+pub bytes-little : (n x : ℕ) → Bytes (little n x)
+unfolding little
+bytes-little zero x = tt
+bytes-little (suc n) x = (omega arith, bytes-little n (x / 256))
+
+pub number-little : (n x : ℕ) → x < 256 ^ n → number (little n x) ≡ x
+unfolding little number
+number-little zero x h = omega arith
+number-little (suc n) x h =
+    let below : x < 256 * 256 ^ n = rw pow-succ' at h in
+    let rest : number (little n (x / 256)) ≡ x / 256 = number-little n (x / 256) (omega arith) in
+    omega arith
+
+pub little-number : (bs : List ℕ) → Bytes bs → little (length bs) (number bs) ≡ bs
+unfolding little number
+little-number [] p = refl
+little-number (b ∷ bs) p =
+    let low : (b + 256 * number bs) % 256 ≡ b = omega (arith, p .0) in
+    let high : (b + 256 * number bs) / 256 ≡ number bs = omega (arith, p .0) in
+    rw (low, high, little-number bs (p .1))
+
+pub number-below : (bs : List ℕ) → Bytes bs → number bs < 256 ^ length bs
+unfolding number
+number-below [] p = omega arith
+number-below (b ∷ bs) p = rw pow-succ' (omega (arith, p .0, number-below bs (p .1)))

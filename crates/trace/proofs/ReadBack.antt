@@ -1,0 +1,126 @@
+-- What is encoded reads back: the file of some writes and samples has good form, and holds these writes and samples.
+-- The idea: a field that stands behind a known number of bytes is read as it was written; the lists by induction. Assumes nothing.
+use mathlib.Core.Bool.{true}
+use mathlib.Core.List.{List, [], _∷_, _++_, append-assoc, append-nil}
+use mathlib.Core.Path.{_≡_, refl, _∙_}
+use Prim.Native.Nat.{ℕ, suc, _+_, _*_, _^_, _≤_, _<_}
+use native.Mathlib.Omega.{arith}
+use lib.ListN.{length, take, length-append}
+use lib.Seq.{take-at, drop-at}
+use borrow.Author.Tests.{le-ltb, eq-eqb}
+use Rattle.trace.specs.Format.{Write, little, write-bytes, sample-bytes, mark, version, header, encode}
+use Rattle.trace.specs.Reading.{field, same, write-count, sample-count, whole, form-refusal, write-at, sample-at, writes-from, samples-from, writes-of, samples-of}
+use Rattle.trace.proofs.Numbers.{length-little, number-little}
+
+-- What a trace file can hold.
+abbrev pub WritesFit : List Write → Type 0
+WritesFit [] = Unit {0}
+WritesFit (w ∷ ws) = (w .offset < 256) × (w .value < 2 ^ 32) × WritesFit ws
+
+abbrev pub SamplesFit : List ℕ → Type 0
+SamplesFit [] = Unit {0}
+SamplesFit (s ∷ ss) = (s < 2 ^ 18) × SamplesFit ss
+
+pub record Fits (ws : List Write) (ss : List ℕ) : Type 0 where
+  pub writes : WritesFit ws
+  pub samples : SamplesFit ss
+  pub few-writes : length ws ≤ 255
+  pub few-samples : length ss ≤ 16384
+
+-- A field behind a known number of bytes.
+pub read-field : (f pre post : List ℕ) (at n x : ℕ) → f ≡ pre ++ (little n x ++ post) → length pre ≡ at → x < 256 ^ n → field f at n ≡ x
+unfolding field
+read-field f pre post at n x e l h = rw (e, drop-at pre (little n x ++ post) at l, take-at (little n x) post n (length-little n x)) (number-little n x h)
+
+write-is : (f : List ℕ) (k : ℕ) (w : Write) → field f (8 + 5 * k) 1 ≡ w .offset → field f (9 + 5 * k) 4 ≡ w .value → write-at f k ≡ w
+unfolding write-at
+write-is f k w p q = λ i. record { offset = p i; value = q i }
+
+pub read-writes : (ws : List Write) (f pre post : List ℕ) (k : ℕ)
+    → f ≡ pre ++ (write-bytes ws ++ post) → length pre ≡ 8 + 5 * k → WritesFit ws → writes-from f k (length ws) ≡ ws
+unfolding write-bytes writes-from
+read-writes [] f pre post k e l h = refl
+read-writes (w ∷ ws) f pre post k e l h =
+    let rest : List ℕ = write-bytes ws ++ post in
+    let p : field f (8 + 5 * k) 1 ≡ w .offset
+    = read-field f pre (little 4 (w .value) ++ rest) (8 + 5 * k) 1 (w .offset) (e ∙ simp append-assoc) l (omega (arith, h .0)) in
+    let q : field f (9 + 5 * k) 4 ≡ w .value
+    = read-field f (pre ++ little 1 (w .offset)) rest (9 + 5 * k) 4 (w .value) (e ∙ simp append-assoc) (simp (length-append, length-little) (omega arith)) (omega (arith, h .1)) in
+    let t : writes-from f (suc k) (length ws) ≡ ws
+    = read-writes ws f (pre ++ little 1 (w .offset) ++ little 4 (w .value)) post (suc k) (e ∙ simp append-assoc) (simp (length-append, length-little) (omega arith)) (h .2) in
+    rw (write-is f k w p q, t)
+
+pub read-samples : (ss : List ℕ) (f pre post : List ℕ) (k : ℕ)
+    → f ≡ pre ++ (sample-bytes ss ++ post) → length pre ≡ 8 + 5 * write-count f + 3 * k → SamplesFit ss → samples-from f k (length ss) ≡ ss
+unfolding sample-bytes samples-from sample-at
+read-samples [] f pre post k e l h = refl
+read-samples (s ∷ ss) f pre post k e l h =
+    let q : field f (8 + 5 * write-count f + 3 * k) 3 ≡ s
+    = read-field f pre (sample-bytes ss ++ post) (8 + 5 * write-count f + 3 * k) 3 s (e ∙ simp append-assoc) l (omega (arith, h .0)) in
+    let t : samples-from f (suc k) (length ss) ≡ ss
+    = read-samples ss f (pre ++ little 3 s) post (suc k) (e ∙ simp append-assoc) (simp (length-append, length-little) (omega arith)) (h .1) in
+    rw (q, t)
+
+pub length-write-bytes : (ws : List Write) → length (write-bytes ws) ≡ 5 * length ws
+unfolding write-bytes
+length-write-bytes [] = refl
+length-write-bytes (w ∷ ws) = simp (length-append, length-little) (omega (arith, length-write-bytes ws))
+
+pub length-sample-bytes : (ss : List ℕ) → length (sample-bytes ss) ≡ 3 * length ss
+unfolding sample-bytes
+length-sample-bytes [] = refl
+length-sample-bytes (s ∷ ss) = simp (length-append, length-little) (omega (arith, length-sample-bytes ss))
+
+-- A file that passes the five tests has good form.
+pub good-form : (f : List ℕ) → 8 ≤ length f → same (take 3 f) mark ≡ true → field f 3 2 ≡ version → sample-count f ≤ 16384 → length f ≡ whole f
+    → form-refusal f ≡ 0
+unfolding form-refusal
+good-form f a b c d e = rw (le-ltb _ _ a, b, eq-eqb _ _ c, le-ltb _ _ d, eq-eqb _ _ e)
+
+module _ (ws : List Write) (ss : List ℕ) (fits : Fits ws ss) where
+  pub write-count-back : write-count (encode ws ss) ≡ length ws
+  unfolding encode header
+  write-count-back =
+      read-field (encode ws ss) (mark ++ little 2 version) (little 2 (length ss) ++ (write-bytes ws ++ sample-bytes ss)) 5 1 (length ws)
+      (simp append-assoc) (simp length-little) (omega (arith, fits .few-writes))
+
+  pub sample-count-back : sample-count (encode ws ss) ≡ length ss
+  unfolding encode header
+  sample-count-back =
+      read-field (encode ws ss) (mark ++ little 2 version ++ little 1 (length ws)) (write-bytes ws ++ sample-bytes ss) 6 2 (length ss)
+      (simp append-assoc) (simp (length-append, length-little)) (omega (arith, fits .few-samples))
+
+  version-back : field (encode ws ss) 3 2 ≡ version
+  unfolding encode header
+  version-back =
+      read-field (encode ws ss) mark (little 1 (length ws) ++ (little 2 (length ss) ++ (write-bytes ws ++ sample-bytes ss))) 3 2 version
+      (simp append-assoc) refl (omega arith)
+
+  length-header : length (header (length ws) (length ss)) ≡ 8
+  unfolding header
+  length-header = simp (length-append, length-little)
+
+  pub length-back : length (encode ws ss) ≡ whole (encode ws ss)
+  unfolding encode
+  length-back = rw (write-count-back, sample-count-back) (simp (length-append, length-header, length-write-bytes, length-sample-bytes))
+
+  mark-back : same (take 3 (encode ws ss)) mark ≡ true
+  unfolding encode header same
+  mark-back = refl
+
+  pub form-back : form-refusal (encode ws ss) ≡ 0
+  form-back =
+      let l = length-back in
+      good-form (encode ws ss) (omega arith) mark-back version-back (rw sample-count-back (fits .few-samples)) l
+
+  pub writes-back : writes-of (encode ws ss) ≡ ws
+  unfolding encode
+  writes-back =
+      rw write-count-back (read-writes ws (encode ws ss) (header (length ws) (length ss)) (sample-bytes ss) 0 (simp append-assoc) length-header (fits .writes))
+
+  pub samples-back : samples-of (encode ws ss) ≡ ss
+  unfolding encode
+  samples-back =
+      rw sample-count-back
+      (read-samples ss (encode ws ss) (header (length ws) (length ss) ++ write-bytes ws) [] 0 (simp (append-assoc, append-nil))
+      (rw write-count-back (simp (length-append, length-header, length-write-bytes) (omega arith))) (fits .samples))

@@ -1,0 +1,143 @@
+-- A file of good form is the very file that `encode` gives for its writes and samples: nothing in it is left unread.
+-- The idea: a field's number gives its bytes back, the items' bytes are one stretch of the file, and the stretches join. Assumes nothing.
+use mathlib.Core.Bool.{Bool, true, false, not, _&&_}
+use mathlib.Core.List.{List, [], _∷_, _++_}
+use mathlib.Core.Path.{_≡_, refl, sym, ap, _∙_}
+use Prim.Native.Nat.{ℕ, zero, suc, _+_, _*_, _≤_}
+use native.Mathlib.Omega.{arith}
+use lib.ListN.{length, take, drop, length-drop}
+use lib.Seq.{length-take-le, take-length, take-add, drop-drop}
+use lib.Dec.{eqb, ltb}
+use borrow.Author.Tests.{ltb-false, eqb-true, not-false}
+use Rattle.refusals.proofs.Accepted.{accepted}
+use Rattle.refusals.specs.Refusals.{_⇒_}
+use Rattle.trace.specs.Format.{little, write-bytes, sample-bytes, mark, version, header, encode}
+use Rattle.trace.specs.Reading.{field, same, write-count, sample-count, whole, form-refusal, write-at, sample-at, writes-from, samples-from, writes-of, samples-of}
+use Rattle.trace.proofs.Numbers.{Bytes, bytes-take, bytes-drop, little-number}
+
+-- What the form checks say of a file.
+pub record Formed (f : List ℕ) : Type 0 where
+  pub long : 8 ≤ length f
+  pub marked : take 3 f ≡ mark
+  pub versioned : field f 3 2 ≡ version
+  pub few : sample-count f ≤ 16384
+  pub exact : length f ≡ whole f
+
+both : (a b : Bool) → a && b ≡ true → (a ≡ true) × (b ≡ true)
+both true b e = (refl, e)
+both false b e = (e, cc)
+
+same-equal : (xs ys : List ℕ) → same xs ys ≡ true → xs ≡ ys
+unfolding same
+same-equal [] [] e = refl
+same-equal [] (y ∷ ys) e = cc
+same-equal (x ∷ xs) [] e = cc
+same-equal (x ∷ xs) (y ∷ ys) e =
+    let (h, t) = both (eqb x y) (same xs ys) e in
+    rw (eqb-true x y h, same-equal xs ys t)
+
+pub formed : (f : List ℕ) → form-refusal f ≡ 0 → Formed f
+unfolding form-refusal
+formed f e =
+    let (a, (b, (c, (d, (g, u))))) =
+    accepted
+    (ltb (length f) 8 ⇒ 13 ∷
+    not (same (take 3 f) mark) ⇒ 10 ∷
+    not (eqb (field f 3 2) version) ⇒ 11 ∷
+    ltb 16384 (sample-count f) ⇒ 12 ∷
+    not (eqb (length f) (whole f)) ⇒ 13 ∷
+    [])
+    (omega arith, (omega arith, (omega arith, (omega arith, (omega arith, tt))))) e in
+    record {
+      long = ltb-false _ _ a;
+      marked = same-equal _ _ (not-false _ b);
+      versioned = eqb-true _ _ (not-false _ c);
+      few = ltb-false _ _ d;
+      exact = eqb-true _ _ (not-false _ g);
+    }
+
+-- n bytes of a file from a byte on: two parts that meet are one part, and a field's number gives its part.
+unfoldable pub part : List ℕ → ℕ → ℕ → List ℕ
+part f at n = take n (drop at f)
+
+part-join : (f : List ℕ) (at n next m all : ℕ) → next ≡ at + n → all ≡ n + m → part f at n ++ part f next m ≡ part f at all
+unfolding part
+part-join f at n next m all p q = rw (p, q, take-add n m (drop at f), drop-drop n at f)
+
+field-bytes : (f : List ℕ) (at n : ℕ) → Bytes f → at + n ≤ length f → little n (field f at n) ≡ part f at n
+unfolding field part
+field-bytes f at n b h =
+    let l : length (take n (drop at f)) ≡ n = length-take-le n (drop at f) (simp length-drop (omega arith)) in
+    rw l at (little-number (take n (drop at f)) (bytes-take n (drop at f) (bytes-drop at f b)))
+
+part-none : (f : List ℕ) (at n : ℕ) → n ≡ 0 → [] ≡ part f at n
+unfolding part
+part-none f at n e = rw e
+
+pub write-part : (f : List ℕ) (k n : ℕ) → Bytes f → 8 + 5 * (k + n) ≤ length f → write-bytes (writes-from f k n) ≡ part f (8 + 5 * k) (5 * n)
+unfolding write-bytes writes-from write-at
+write-part f k zero b h = part-none f (8 + 5 * k) (5 * 0) (omega arith)
+write-part f k (suc n) b h =
+    rw (
+      field-bytes f (8 + 5 * k) 1 b (omega arith),
+      field-bytes f (9 + 5 * k) 4 b (omega arith),
+      write-part f (suc k) n b (omega arith),
+      part-join f (8 + 5 * k) 1 (9 + 5 * k) 4 5 (omega arith) (omega arith),
+    )
+    (part-join f (8 + 5 * k) 5 (8 + 5 * suc k) (5 * n) (5 * suc n) (omega arith) (omega arith))
+
+pub sample-part : (f : List ℕ) (k n : ℕ) → Bytes f → 8 + 5 * write-count f + 3 * (k + n) ≤ length f
+    → sample-bytes (samples-from f k n) ≡ part f (8 + 5 * write-count f + 3 * k) (3 * n)
+unfolding sample-bytes samples-from sample-at
+sample-part f k zero b h = part-none f (8 + 5 * write-count f + 3 * k) (3 * 0) (omega arith)
+sample-part f k (suc n) b h =
+    rw (field-bytes f (8 + 5 * write-count f + 3 * k) 3 b (omega arith), sample-part f (suc k) n b (omega arith))
+    (part-join f (8 + 5 * write-count f + 3 * k) 3 (8 + 5 * write-count f + 3 * suc k) (3 * n) (3 * suc n) (omega arith) (omega arith))
+
+pub length-writes-from : (f : List ℕ) (k n : ℕ) → length (writes-from f k n) ≡ n
+unfolding writes-from
+length-writes-from f k zero = refl
+length-writes-from f k (suc n) = ap suc (length-writes-from f (suc k) n)
+
+pub length-samples-from : (f : List ℕ) (k n : ℕ) → length (samples-from f k n) ≡ n
+unfolding samples-from
+length-samples-from f k zero = refl
+length-samples-from f k (suc n) = ap suc (length-samples-from f (suc k) n)
+
+header-part : (f : List ℕ) → Bytes f → Formed f → header (write-count f) (sample-count f) ≡ part f 0 8
+unfolding header
+header-part f b g =
+    let w : ℕ = write-count f in
+    let s : ℕ = sample-count f in
+    let m : mark ≡ part f 0 3 = unfold part in sym (g .marked) in
+    let v : little 2 version ≡ part f 3 2 = ap (little 2) (sym (g .versioned)) ∙ field-bytes f 3 2 b (omega (arith, g .long)) in
+    ap (λ (x : List ℕ). x ++ little 2 version ++ little 1 w ++ little 2 s) m
+    ∙ ap (λ (x : List ℕ). part f 0 3 ++ x ++ little 1 w ++ little 2 s) v
+    ∙ rw (
+      field-bytes f 5 1 b (omega (arith, g .long)),
+      field-bytes f 6 2 b (omega (arith, g .long)),
+      part-join f 0 3 3 2 5 refl refl,
+      part-join f 0 5 5 1 6 refl refl,
+    )
+    (part-join f 0 6 6 2 8 refl refl)
+
+pub length-writes-of : (f : List ℕ) → length (writes-of f) ≡ write-count f
+length-writes-of f = length-writes-from f 0 (write-count f)
+
+pub length-samples-of : (f : List ℕ) → length (samples-of f) ≡ sample-count f
+length-samples-of f = length-samples-from f 0 (sample-count f)
+
+pub rewritten : (f : List ℕ) → Bytes f → form-refusal f ≡ 0 → encode (writes-of f) (samples-of f) ≡ f
+unfolding encode
+rewritten f b e =
+    let g = formed f e in
+    rw (
+      length-writes-of f,
+      length-samples-of f,
+      header-part f b g,
+      write-part f 0 (write-count f) b (omega (arith, g .exact)),
+      sample-part f 0 (sample-count f) b (omega (arith, g .exact)),
+      part-join f 0 8 (8 + 5 * 0) (5 * write-count f) (8 + 5 * write-count f) (omega arith) (omega arith),
+      part-join f 0 (8 + 5 * write-count f) (8 + 5 * write-count f + 3 * 0) (3 * sample-count f) (length f) (omega arith) (omega (arith, g .exact)),
+    )
+    (unfold part in take-length f)

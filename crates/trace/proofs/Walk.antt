@@ -1,0 +1,58 @@
+-- The places of a file: first each write, then each sample, then the end; and content decides an accepted file.
+-- The idea: the two tests of `item` come out by comparing the place with the counts; the rest is that a file is rewritten. Assumes nothing.
+use mathlib.Core.List.{List}
+use mathlib.Core.Path.{_≡_, sym, ap, _∙_}
+use Prim.Native.Nat.{ℕ, suc, zero, _+_, _-_, _≤_, _<_, _^_}
+use native.Mathlib.Nat.{add-zero, add-suc, suc-add}
+use native.Mathlib.Omega.{arith}
+use lib.ListN.{getD}
+use borrow.Author.Tests.{lt-ltb, le-ltb, le-leb, lt-leb}
+use Rattle.trace.specs.Format.{Write, encode}
+use Rattle.trace.specs.Reading.{a-write, a-sample, the-end, refused, checked, item, write-count, sample-count, form-refusal, write-at, sample-at, writes-from, samples-from, writes-of, samples-of}
+use Rattle.trace.proofs.Numbers.{Bytes}
+use Rattle.trace.proofs.Rewritten.{rewritten}
+
+-- The places below the number of writes hold the writes, in order.
+pub write-place : (f : List ℕ) (k : ℕ) → k < write-count f → item f k ≡ a-write (write-at f k)
+unfolding item
+write-place f k h = rw (lt-ltb _ _ h)
+
+-- The places after them hold the samples, in order, each checked.
+pub sample-place : (f : List ℕ) (k : ℕ) → k < sample-count f → item f (write-count f + k) ≡ checked (sample-at f k)
+unfolding item
+sample-place f k h =
+    let from : write-count f + k - write-count f ≡ k = omega arith in
+    rw (le-ltb (write-count f + k) (write-count f) (omega arith), lt-ltb (write-count f + k) (write-count f + sample-count f) (omega arith), from)
+
+-- Every further place is the end.
+pub end-place : (f : List ℕ) (k : ℕ) → write-count f + sample-count f ≤ k → item f k ≡ the-end
+unfolding item
+end-place f k h = rw (le-ltb k (write-count f) (omega arith), le-ltb _ _ h)
+
+-- A sample of 18 bits is given; one with a higher bit is refused.
+pub sample-given : (w : ℕ) → w < 2 ^ 18 → checked w ≡ a-sample w
+unfolding checked
+sample-given w h = rw (lt-leb (2 ^ 18) w h)
+
+pub sample-refused : (w : ℕ) → 2 ^ 18 ≤ w → checked w ≡ refused 7
+unfolding checked
+sample-refused w h = rw (le-leb (2 ^ 18) w h)
+
+-- The lists are what stands at the places: number k of each list is the item read there.
+pub write-number : (f : List ℕ) (k n i : ℕ) (d : Write) → i < n → getD (writes-from f k n) i d ≡ write-at f (k + i)
+unfolding writes-from
+write-number f k zero i d = λ h. absurd (omega arith)
+write-number f k (suc n) zero d = λ h. rw add-zero
+write-number f k (suc n) (suc i) d = λ h. rw (add-suc, ← suc-add) (write-number f (suc k) n i d (omega arith))
+
+pub sample-number : (f : List ℕ) (k n i d : ℕ) → i < n → getD (samples-from f k n) i d ≡ sample-at f (k + i)
+unfolding samples-from
+sample-number f k zero i d = λ h. absurd (omega arith)
+sample-number f k (suc n) zero d = λ h. rw add-zero
+sample-number f k (suc n) (suc i) d = λ h. rw (add-suc, ← suc-add) (sample-number f (suc k) n i d (omega arith))
+
+-- Two accepted files with the same writes and the same samples are the same file.
+pub content-decides : (f g : List ℕ) → Bytes f → Bytes g → form-refusal f ≡ 0 → form-refusal g ≡ 0
+    → writes-of f ≡ writes-of g → samples-of f ≡ samples-of g → f ≡ g
+content-decides f g bf bg ef eg w s =
+    sym (rewritten f bf ef) ∙ ap (λ (ws : List Write). encode ws (samples-of f)) w ∙ ap (λ (ss : List ℕ). encode (writes-of g) ss) s ∙ rewritten g bg eg

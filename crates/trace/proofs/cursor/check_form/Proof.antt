@@ -1,0 +1,126 @@
+-- `trace::cursor::check_form` meets its contract. Assumes nothing.
+-- Each return unfolds the definition and rewrites by what the calls gave and by the tests on the way there.
+use borrow.Author.Needs.{needs}
+use borrow.Author.Tests.{le-ltb, lt-ltb, eq-eqb, ne-eqb}
+use Rattle.trace.specs.Reading.{form-refusal}
+use Rattle.trace.proofs.cursor.check_form.Statement.{statement}
+use Rattle.trace.proofs.cursor.check_form.Tie as tie
+
+returns : tie.Need-returns
+unfolding form-refusal
+returns c =
+    rw (lt-ltb _ _ (c .if1 .taken))
+
+marked-requires : tie.Need-marked-requires
+marked-requires c κs = search needs
+
+two-requires : tie.Need-two-requires
+two-requires c κs = search needs
+
+returns-2 : tie.Need-returns-2
+unfolding form-refusal
+returns-2 c =
+    rw (
+      le-ltb _ _ (c .before .before .before .before .if1 .left),
+      ← c .before .before .before .marked .ensures,
+      c .before .before .if2 .taken,
+      ← c .before .two .ensures .0,
+      ne-eqb _ _ (c .if3 .taken),
+    )
+
+two-requires-2 : tie.Need-two-requires-2
+two-requires-2 c κs = search needs
+
+returns-3 : tie.Need-returns-3
+unfolding form-refusal
+returns-3 c =
+    rw (
+      le-ltb _ _ (c .before .before .before .before .before .before .if1 .left),
+      ← c .before .before .before .before .before .marked .ensures,
+      c .before .before .before .before .if2 .taken,
+      ← c .before .before .before .two .ensures .0,
+      eq-eqb _ _ (c .before .before .if3 .left),
+      ← c .before .two2 .ensures .0,
+      lt-ltb _ _ (c .if4 .taken),
+    )
+
+one-requires : tie.Need-one-requires
+one-requires c κs = search needs
+
+cast-if5 : tie.Need-cast-if5
+cast-if5 c = search needs
+
+mul-if5 : tie.Need-mul-if5
+mul-if5 c = search needs
+
+add-if5 : tie.Need-add-if5
+add-if5 c = search needs
+
+cast-if5-2 : tie.Need-cast-if5-2
+cast-if5-2 c = search needs
+
+mul-if5-2 : tie.Need-mul-if5-2
+mul-if5-2 c = search needs
+
+add-if5-2 : tie.Need-add-if5-2
+add-if5-2 c = search needs
+
+returns-4 : tie.Need-returns-4
+unfolding form-refusal
+returns-4 c =
+    rw (
+      le-ltb _ _ (c .before .before .before .before .before .before .before .before .if1 .left),
+      ← c .before .before .before .before .before .before .before .marked .ensures,
+      c .before .before .before .before .before .before .if2 .taken,
+      ← c .before .before .before .before .before .two .ensures .0,
+      eq-eqb _ _ (c .before .before .before .before .if3 .left),
+      ← c .before .before .before .two2 .ensures .0,
+      le-ltb _ _ (c .before .before .if4 .left),
+      ← c .before .one .ensures,
+      ne-eqb _ _ (c .if5 .taken),
+    )
+
+returns-5 : tie.Need-returns-5
+unfolding form-refusal
+returns-5 c =
+    rw (
+      le-ltb _ _ (c .before .before .before .before .before .before .before .before .if1 .left),
+      ← c .before .before .before .before .before .before .before .marked .ensures,
+      c .before .before .before .before .before .before .if2 .taken,
+      ← c .before .before .before .before .before .two .ensures .0,
+      eq-eqb _ _ (c .before .before .before .before .if3 .left),
+      ← c .before .before .before .two2 .ensures .0,
+      le-ltb _ _ (c .before .before .if4 .left),
+      ← c .before .one .ensures,
+      eq-eqb _ _ (c .if5 .left),
+    )
+
+returns-6 : tie.Need-returns-6
+unfolding form-refusal
+returns-6 c =
+    rw (
+      le-ltb _ _ (c .before .before .if1 .left),
+      ← c .before .marked .ensures,
+      c .if2 .left,
+    )
+
+pub check-form-spec : {M : Type 1} → statement M
+check-form-spec =
+    tie.close
+    (tie.spec
+    returns
+    marked-requires
+    two-requires
+    returns-2
+    two-requires-2
+    returns-3
+    one-requires
+    cast-if5
+    mul-if5
+    add-if5
+    cast-if5-2
+    mul-if5-2
+    add-if5-2
+    returns-4
+    returns-5
+    returns-6)

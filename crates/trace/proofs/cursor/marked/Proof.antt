@@ -1,0 +1,50 @@
+-- `trace::cursor::marked` meets its contract. Assumes nothing.
+-- Each return unfolds the definition and rewrites by what the calls gave and by the tests on the way there.
+use borrow.Author.Needs.{needs}
+use borrow.Author.Tests.{eq-eqb, ne-eqb}
+use denote.Ref.{now}
+use Rattle.trace.proofs.Fields.{mark-bytes}
+use Rattle.trace.proofs.cursor.marked.Statement.{statement}
+use Rattle.trace.proofs.cursor.marked.Tie as tie
+
+byte-requires : tie.Need-byte-requires
+byte-requires c κs = search needs
+
+byte-requires-2 : tie.Need-byte-requires-2
+byte-requires-2 c κs = search needs
+
+byte-requires-3 : tie.Need-byte-requires-3
+byte-requires-3 c κs = search needs
+
+returns : tie.Need-returns
+returns c =
+    rw (
+      mark-bytes (now (c .before .before .before .before .before .before .args .file)) (c .before .before .before .before .before .before .pre),
+      ← c .before .before .before .before .byte .ensures,
+      eq-eqb _ _ (c .before .before .before .if1 .taken),
+      ← c .before .before .byte2 .ensures,
+      eq-eqb _ _ (c .before .if2 .taken),
+      ← c .byte3 .ensures,
+    )
+
+returns-2 : tie.Need-returns-2
+returns-2 c =
+    rw (
+      mark-bytes (now (c .before .before .before .before .before .args .file)) (c .before .before .before .before .before .pre),
+      ← c .before .before .before .byte .ensures,
+      eq-eqb _ _ (c .before .before .if1 .taken),
+      ← c .before .byte2 .ensures,
+      ne-eqb _ _ (c .if2 .left),
+    )
+
+returns-3 : tie.Need-returns-3
+returns-3 c =
+    rw (
+      mark-bytes (now (c .before .before .before .args .file)) (c .before .before .before .pre),
+      ← c .before .byte .ensures,
+      ne-eqb _ _ (c .if1 .left),
+    )
+
+pub marked-spec : {M : Type 1} → statement M
+marked-spec =
+    tie.close (tie.spec byte-requires byte-requires-2 byte-requires-3 returns returns-2 returns-3)

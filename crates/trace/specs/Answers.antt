@@ -1,0 +1,28 @@
+-- The paper's number and values of each case of the reader's answers.
+use Prim.Native.Nat.{ℕ}
+use Rattle.trace.specs.Reading as reading
+use Rattle.trace.specs.declared.Refusal.{Refusal}
+use Rattle.trace.specs.declared.Refusal.the-variants.{SampleBits, Mark, Version, SampleCount, Length}
+use Rattle.trace.specs.declared.Form.{Form}
+use Rattle.trace.specs.declared.Form.the-variants as forms
+use Rattle.trace.specs.declared.Item.{Item}
+use Rattle.trace.specs.declared.Item.the-variants as items
+
+abbrev pub number : Refusal → ℕ
+number SampleBits = 7
+number Mark = 10
+number Version = 11
+number SampleCount = 12
+number Length = 13
+
+-- 0 of a file that passes the form checks, else the refusal's number.
+abbrev pub form : Form → ℕ
+form forms.Good = 0
+form (forms.Refused e) = number e
+
+-- A write, a sample, the end, or a refusal.
+abbrev pub item : Item → reading.Item
+item (items.Write offset value) = reading.a-write (record { offset = offset; value = value })
+item (items.Sample w) = reading.a-sample w
+item items.End = reading.the-end
+item (items.Refused e) = reading.refused (number e)

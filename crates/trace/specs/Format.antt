@@ -1,0 +1,36 @@
+-- The trace file, version 1 (document 01, "Trace file, version 1"): the bytes of some writes and samples.
+use mathlib.Core.List.{List, [], _∷_, _++_}
+use Prim.Native.Nat.{ℕ, zero, suc, _/_, _%_}
+use lib.ListN.{length}
+
+-- The n lowest bytes of a number, little-endian.
+unfoldable pub little : ℕ → ℕ → List ℕ
+little zero x = []
+little (suc n) x = x % 256 ∷ little n (x / 256)
+
+-- A register write as the file has it: any offset byte, any 32-bit value.
+pub record Write : Type 0 where
+  pub offset : ℕ
+  pub value : ℕ
+
+-- Each write: offset (1) and value (4). Each sample: 3 bytes.
+unfoldable pub write-bytes : List Write → List ℕ
+write-bytes [] = []
+write-bytes (w ∷ ws) = little 1 (w .offset) ++ little 4 (w .value) ++ write-bytes ws
+
+unfoldable pub sample-bytes : List ℕ → List ℕ
+sample-bytes [] = []
+sample-bytes (w ∷ ws) = little 3 w ++ sample-bytes ws
+
+-- Bytes 0-2 "FGT"; 3-4 version; 5 number of writes; 6-7 number of samples.
+abbrev pub mark : List ℕ
+mark = 0x46 ∷ 0x47 ∷ 0x54 ∷ []
+
+abbrev pub version : ℕ
+version = 1
+
+unfoldable pub header : ℕ → ℕ → List ℕ
+header writes samples = mark ++ little 2 version ++ little 1 writes ++ little 2 samples
+
+unfoldable pub encode : List Write → List ℕ → List ℕ
+encode writes samples = header (length writes) (length samples) ++ write-bytes writes ++ sample-bytes samples

@@ -1,0 +1,90 @@
+-- Reading a trace file: the form checks, and the item at a place (document 01, "Trace file, version 1" and "Refusal numbers").
+use mathlib.Core.Bool.{Bool, true, false, cond, not, _&&_}
+use mathlib.Core.List.{List, [], _∷_}
+use Prim.Native.Nat.{ℕ, zero, suc, _+_, _-_, _*_, _^_}
+use lib.Dec.{eqb, ltb, leb}
+use lib.ListN.{length, take, drop}
+use Rattle.refusals.specs.Refusals.{_⇒_, first}
+use Rattle.trace.specs.Format.{Write, mark, version}
+
+-- The number that some bytes are, little-endian; and that of n bytes of a file from a byte on.
+unfoldable pub number : List ℕ → ℕ
+number [] = 0
+number (b ∷ bs) = b + 256 * number bs
+
+unfoldable pub field : List ℕ → ℕ → ℕ → ℕ
+field file at n = number (take n (drop at file))
+
+unfoldable pub same : List ℕ → List ℕ → Bool
+same [] [] = true
+same [] (y ∷ ys) = false
+same (x ∷ xs) [] = false
+same (x ∷ xs) (y ∷ ys) = eqb x y && same xs ys
+
+-- The header's two numbers, and the length that they give.
+abbrev pub write-count : List ℕ → ℕ
+write-count file = field file 5 1
+
+abbrev pub sample-count : List ℕ → ℕ
+sample-count file = field file 6 2
+
+abbrev pub whole : List ℕ → ℕ
+whole file = 8 + 5 * write-count file + 3 * sample-count file
+
+-- The form checks on opening: 13 (below 8 bytes), 10, 11, 12, 13.
+unfoldable pub form-refusal : List ℕ → ℕ
+form-refusal file =
+    first
+    (ltb (length file) 8 ⇒ 13 ∷
+    not (same (take 3 file) mark) ⇒ 10 ∷
+    not (eqb (field file 3 2) version) ⇒ 11 ∷
+    ltb 16384 (sample-count file) ⇒ 12 ∷
+    not (eqb (length file) (whole file)) ⇒ 13 ∷
+    [])
+
+-- What stands at a place: a write, a sample, the end, or a refusal.
+pub data Item : Type 0 where
+  a-write : Write → Item
+  a-sample : ℕ → Item
+  the-end : Item
+  refused : ℕ → Item
+
+-- Refusal 7: a sample has a bit above 17.
+unfoldable pub checked : ℕ → Item
+checked w = cond (leb (2 ^ 18) w) (refused 7) (a-sample w)
+
+-- Write number k, and sample number k, of a file.
+unfoldable pub write-at : List ℕ → ℕ → Write
+write-at file k = record { offset = field file (8 + 5 * k) 1; value = field file (9 + 5 * k) 4 }
+
+unfoldable pub sample-at : List ℕ → ℕ → ℕ
+sample-at file k = field file (8 + 5 * write-count file + 3 * k) 3
+
+-- Places are numbered from 0: first the writes, then the samples, then the end.
+unfoldable pub item : List ℕ → ℕ → Item
+item file place =
+    cond (ltb place (write-count file))
+    (a-write (write-at file place))
+    (cond (ltb place (write-count file + sample-count file)) (checked (sample-at file (place - write-count file))) the-end)
+
+-- The place after an item; at the end and at a refusal it stays.
+unfoldable pub past : ℕ → Item → ℕ
+past place (a-write w) = place + 1
+past place (a-sample w) = place + 1
+past place the-end = place
+past place (refused n) = place
+
+-- All writes and all samples of a file, in order, n of them from number k on.
+unfoldable pub writes-from : List ℕ → ℕ → ℕ → List Write
+writes-from file k zero = []
+writes-from file k (suc n) = write-at file k ∷ writes-from file (suc k) n
+
+unfoldable pub samples-from : List ℕ → ℕ → ℕ → List ℕ
+samples-from file k zero = []
+samples-from file k (suc n) = sample-at file k ∷ samples-from file (suc k) n
+
+abbrev pub writes-of : List ℕ → List Write
+writes-of file = writes-from file 0 (write-count file)
+
+abbrev pub samples-of : List ℕ → List ℕ
+samples-of file = samples-from file 0 (sample-count file)

@@ -1,0 +1,127 @@
+// The form checks, and one item at a time. A byte beyond the end of the slice reads as 0.
+ghost use mathlib.Core.Path.{_≡_};
+ghost use Prim.Native.Nat.{_<_, _≤_, _^_};
+ghost use lib.ListN.{getD, length, take};
+ghost use Rattle.trace.specs.Format as format;
+ghost use Rattle.trace.specs.Reading as reading;
+ghost use Rattle.trace.specs.Answers as answers;
+use crate::Form;
+use crate::Item;
+use crate::Refusal;
+
+fn byte(file: &[u8], at: usize) -> u8
+    ensures { λ r. ⌜ r ≡ getD (now (file .entry)) at 0 ⌝ }
+{
+    if at < file.len() {
+        return file[at];
+    }
+    0
+}
+
+fn wide(x: u8) -> u32
+    ensures { λ r. ⌜ r ≡ x ⌝ }
+    ensures { λ r. ⌜ r < 2 ^ 8 ⌝ }
+{
+    x as u32
+}
+
+// The numbers of one, two, three and four bytes from a byte on.
+fn one(file: &[u8], at: usize) -> u8
+    ensures { λ r. ⌜ r ≡ reading.field (now (file .entry)) at 1 ⌝ }
+{
+    byte(file, at)
+}
+
+fn two(file: &[u8], at: usize) -> u32
+    requires { ⌜ at < 2 ^ 34 ⌝ }
+    ensures { λ r. ⌜ r ≡ reading.field (now (file .entry)) at 2 ⌝ }
+    ensures { λ r. ⌜ r < 2 ^ 16 ⌝ }
+{
+    let low = wide(byte(file, at));
+    let high = wide(byte(file, at + 1));
+    low + 256 * high
+}
+
+fn three(file: &[u8], at: usize) -> u32
+    requires { ⌜ at < 2 ^ 33 ⌝ }
+    ensures { λ r. ⌜ r ≡ reading.field (now (file .entry)) at 3 ⌝ }
+    ensures { λ r. ⌜ r < 2 ^ 24 ⌝ }
+{
+    let low = wide(byte(file, at));
+    let high = two(file, at + 1);
+    low + 256 * high
+}
+
+fn four(file: &[u8], at: usize) -> u32
+    requires { ⌜ at < 2 ^ 32 ⌝ }
+    ensures { λ r. ⌜ r ≡ reading.field (now (file .entry)) at 4 ⌝ }
+{
+    let low = wide(byte(file, at));
+    let high = three(file, at + 1);
+    low + 256 * high
+}
+
+// Bytes 0 to 2 are the mark.
+fn marked(file: &[u8]) -> bool
+    requires { ⌜ 3 ≤ length (now file) ⌝ }
+    ensures { λ r. ⌜ r ≡ reading.same (take 3 (now (file .entry))) format.mark ⌝ }
+{
+    if byte(file, 0) == 0x46 {
+        if byte(file, 1) == 0x47 {
+            return byte(file, 2) == 0x54;
+        }
+        return false;
+    }
+    false
+}
+
+// The form checks: 13 (below 8 bytes), 10, 11, 12, 13.
+pub fn check_form(file: &[u8]) -> Form
+    ensures { λ r. ⌜ answers.form r ≡ reading.form-refusal (now (file .entry)) ⌝ }
+{
+    if file.len() < 8 {
+        return Form::Refused(Refusal::Length);
+    }
+    if marked(file) {
+        if two(file, 3) != 1 {
+            return Form::Refused(Refusal::Version);
+        }
+        let samples = two(file, 6);
+        if 16384 < samples {
+            return Form::Refused(Refusal::SampleCount);
+        }
+        let writes = one(file, 5);
+        if file.len() != 8 + 5 * (writes as usize) + 3 * (samples as usize) {
+            return Form::Refused(Refusal::Length);
+        }
+        return Form::Good;
+    }
+    Form::Refused(Refusal::Mark)
+}
+
+// A sample, or refusal 7.
+fn checked(w: u32) -> Item
+    ensures { λ r. ⌜ answers.item r ≡ reading.checked w ⌝ }
+{
+    if 262144 <= w {
+        return Item::Refused(Refusal::SampleBits);
+    }
+    Item::Sample(w)
+}
+
+// The item at a place: first the writes, then the samples, then the end.
+pub fn item_at(file: &[u8], place: usize) -> Item
+    ensures { λ r. ⌜ answers.item r ≡ reading.item (now (file .entry)) place ⌝ }
+{
+    let writes = one(file, 5) as usize;
+    if place < writes {
+        let offset = one(file, 8 + 5 * place);
+        let value = four(file, 9 + 5 * place);
+        return Item::Write(offset, value);
+    }
+    let samples = two(file, 6) as usize;
+    if place < writes + samples {
+        return checked(three(file, 8 + 5 * writes + 3 * (place - writes)));
+    }
+    Item::End
+}

@@ -1,0 +1,47 @@
+// The trace file, version 1: the form checks, and one item at a time from a slice and a place. It knows nothing of the device. Each
+// function answers for every slice and number, and states its answer as an equation with a definition of specs/.
+ghost use mathlib.Core.Path.{_≡_};
+ghost use Rattle.trace.specs.Answers as answers;
+
+mod cursor;
+
+pub use cursor::check_form;
+pub use cursor::item_at;
+
+// Why a file, or an item of one, is refused.
+pub enum Refusal {
+    SampleBits,
+    Mark,
+    Version,
+    SampleCount,
+    Length,
+}
+
+impl Refusal {
+    // The paper's number.
+    pub fn number(self) -> u32
+        ensures { λ r. ⌜ r ≡ answers.number self ⌝ }
+    {
+        match self {
+            Refusal::SampleBits => 7,
+            Refusal::Mark => 10,
+            Refusal::Version => 11,
+            Refusal::SampleCount => 12,
+            Refusal::Length => 13,
+        }
+    }
+}
+
+// Whether a file passes the form checks.
+pub enum Form {
+    Good,
+    Refused(Refusal),
+}
+
+// What stands at a place of a file.
+pub enum Item {
+    Write(u8, u32),
+    Sample(u32),
+    End,
+    Refused(Refusal),
+}
