@@ -116,8 +116,8 @@ fn run(d: Device, start: usize, samples: &[u32]) -> Device {
     e
 }
 
-// Trace T, with CR written before it.
-fn trace_t(cr: u32) -> Device {
+// Trace T from a start byte, with CR written before it.
+fn trace_t(cr: u32, start: usize) -> Device {
     let t = [
         0x0C000,
         0x1C000,
@@ -129,7 +129,7 @@ fn trace_t(cr: u32) -> Device {
         0x1C000,
     ];
     let d = write(device::fresh(), Register::CR, cr);
-    run(d, 0, &t)
+    run(d, start, &t)
 }
 
 // One blank edge and nine pixels, 1 to 9, without a grant.
@@ -204,27 +204,11 @@ fn registers() {
     read(m, Register::CR);
 }
 
-// Trace T over 8 bytes of memory from other start bytes.
-fn starts(start: usize) {
-    let t = [
-        0x0C000,
-        0x1C000,
-        0x00AAB,
-        0x10AAB,
-        0x0091B,
-        0x1091B,
-        0x2C000,
-        0x1C000,
-    ];
-    let d = write(device::fresh(), Register::CR, 0x48E3);
-    run(d, start, &t);
-}
-
 fn main() {
     text(b"Trace T at 12, 10 and 8 bits:\n");
-    let d = trace_t(0x48E3);
-    trace_t(0x44E3);
-    trace_t(0x40E3);
+    let d = trace_t(0x48E3, 0);
+    trace_t(0x44E3, 0);
+    trace_t(0x40E3, 0);
     text(b"RIS 0x19, ICR 1 leaves RIS 0x18:\n");
     let d = write(d, Register::ICR, 1);
     read(d, Register::RIS);
@@ -239,10 +223,10 @@ fn main() {
     text(
         b"Memory of 8 bytes: start 4 has room for one word, 5 and 8 for none, 9 is refused 9. An empty trace changes nothing:\n",
     );
-    starts(4);
-    starts(5);
-    starts(8);
-    starts(9);
+    trace_t(0x48E3, 4);
+    trace_t(0x48E3, 5);
+    trace_t(0x48E3, 8);
+    trace_t(0x48E3, 9);
     let none = [0u32; 0];
     run(device::fresh(), 0, &none);
 }

@@ -12,10 +12,12 @@ use borrow.Author.Tests.{ltb-true, leb-true}
 use Rattle.registers.specs.Control.{enable}
 use Rattle.rules.specs.declared.Capture.{Capture}
 use Rattle.rules.specs.declared.Device.{Device}
+use Rattle.rules.specs.State.{with-pins, with-syncs}
 use Rattle.rules.specs.Capture.{bus-grant}
 use Rattle.rules.specs.Queue.{pop, room, lands, landed, grant}
 use Rattle.rules.specs.Run.{count-sample}
 use Rattle.rules.proofs.Booleans.{and-true, either}
+use Rattle.laws.proofs.CaptureParts.{pins-syncs-ok}
 use Rattle.rules.proofs.WellFormed.{CaptureOk, WellFormed}
 
 -- The slots after the first, and a 0, of four.
@@ -36,19 +38,8 @@ lands-held d b w e =
     (ltb-true 0 (d .fifo .held) held, leb-true (4 * d .place + 4) (length b) fits)
 
 pub more-lines : {m n : ℕ} {s : Capture} → m ≤ n → CaptureOk m s → CaptureOk n s
-more-lines le h =
-    record {
-      unused = h .unused;
-      short = h .short;
-      allowed = h .allowed;
-      ris = h .ris;
-      ier = h .ier;
-      idle = h .idle;
-      inside = h .inside;
-      rate = h .rate;
-      lines = omega (arith, h .lines);
-      pixels = omega (arith, h .pixels);
-    }
+unfolding with-pins with-syncs
+more-lines {s} le h = pins-syncs-ok (s .pins) (s .syncs) le h
 
 pub counted : {d : Device} → WellFormed d → WellFormed (count-sample d)
 unfolding count-sample
