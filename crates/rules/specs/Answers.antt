@@ -1,4 +1,4 @@
--- What calls answer, and how a refusal is found (document 01, "Refusal numbers").
+-- What calls answer (document 01, "Refusal numbers"; how a refusal is found is in the crate `refusals`).
 use mathlib.Core.Bool.{cond}
 use Prim.Native.Nat.{ℕ}
 use lib.Dec.{eqb}
