@@ -16,7 +16,8 @@ use Rattle.rules.specs.Capture.{no-word, working-edge, remember-pins, blanking,
 use Rattle.rules.specs.Queue.{pop, push, bytes, room, stored, lands, landed, grant, discard, count-word, hold, lose-frame, overrun, full-word, complete}
 use Rattle.rules.specs.WellFormed.{all-zero, bad-fifo, unused-bits, full-partial, excluded, bad-flags, active-disabled, partial-outside, bad-rate, above-samples, bad-place, bad-counts, malformed}
 use Rattle.rules.specs.RegisterCalls.{changes-setup, write-refusal, enabling, disabling, switch-enable, capture-rises, switch-capture, write-control, clear-flags, write-register, write-at, write}
-use Rattle.rules.specs.Run.{count-sample, after-grant, step, steps, bad-sample, any-bad, run-refusal, run, in-memory, sample}
+use Rattle.refusals.specs.Samples.{bad-sample, any-bad}
+use Rattle.rules.specs.Run.{count-sample, after-grant, step, steps, run-refusal, run, in-memory, sample}
 use Rattle.rules.proofs.Booleans.{and-true}
 use Rattle.delivery.specs.Calls.{Write, written, Call, System, accepted, after-call, samples, inside, moments}
 use Rattle.delivery.specs.Noted.{write-found, noted-write, noted-writes, note, noted, spacing}

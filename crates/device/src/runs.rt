@@ -14,29 +14,10 @@ use crate::Reply;
 use crate::Sampled;
 use crate::Written;
 use crate::well_formed::malformed;
+use refusals::any_bad;
 use rules::Device;
 use sampling::Landing;
 use sampling::step;
-
-// Whether a sample has a bit above 17.
-fn bad_sample(w: u32) -> bool
-    ensures { λ r. ⌜ r ≡ rules.bad-sample w ⌝ }
-{
-    262144 <= w
-}
-
-fn any_bad(samples: &[u32]) -> bool
-    ensures { λ r. ⌜ r ≡ rules.any-bad (now (samples .entry)) ⌝ }
-{
-    let mut i = 0;
-    while i < samples.len() {
-        if bad_sample(samples[i]) {
-            return true;
-        }
-        i += 1;
-    }
-    false
-}
 
 // Whether the samples in all would pass 4,294,967,295.
 fn too_many(before: u32, samples: &[u32]) -> bool

@@ -1,15 +1,16 @@
 -- One sample whole, and a run (document 01, "One sample", "Memory and counts" and "Refusal numbers").
-use mathlib.Core.Bool.{Bool, false, cond, _||_}
+use mathlib.Core.Bool.{cond}
 use mathlib.Core.List.{List, [], _∷_, _++_}
 use mathlib.Core.Option.{Option, none, some}
-use Prim.Native.Nat.{ℕ, _+_, _^_}
-use lib.Dec.{eqb, ltb, leb}
+use Prim.Native.Nat.{ℕ, _+_}
+use lib.Dec.{eqb, ltb}
 use lib.ListN.{length, take, drop}
 use Rattle.rules.specs.declared.Device.{Device}
 use Rattle.rules.specs.State.{with-capture}
 use Rattle.rules.specs.Capture.{capture-sample}
 use Rattle.rules.specs.Queue.{grant, Packed, Completed, complete}
 use Rattle.refusals.specs.Refusals.{_⇒_, first}
+use Rattle.refusals.specs.Samples.{any-bad}
 use Rattle.rules.specs.Answers.{Answer, answer}
 use Rattle.rules.specs.WellFormed.{malformed}
 
@@ -56,14 +57,6 @@ pub record Ran : Type 0 where
 unfoldable pub steps : Device → List ℕ → List ℕ → Ran
 steps d buffer [] = record { device = d; buffer = buffer }
 steps d buffer (w ∷ ws) = steps (step d buffer w .device) (step d buffer w .buffer) ws
-
--- Refusal 7: a sample has a bit above 17.
-unfoldable pub bad-sample : ℕ → Bool
-bad-sample w = leb (2 ^ 18) w
-
-unfoldable pub any-bad : List ℕ → Bool
-any-bad [] = false
-any-bad (w ∷ ws) = bad-sample w || any-bad ws
 
 -- A run of some samples, or one sample: refusals 1, 9, 7, 8.
 unfoldable pub run-refusal : Device → List ℕ → ℕ → List ℕ → ℕ

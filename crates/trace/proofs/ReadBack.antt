@@ -8,7 +8,8 @@ use native.Mathlib.Omega.{arith}
 use lib.ListN.{length, take, length-append}
 use lib.Seq.{take-at, drop-at}
 use borrow.Author.Tests.{le-ltb, eq-eqb}
-use Rattle.trace.specs.Format.{Write, little, write-bytes, sample-bytes, mark, version, header, encode}
+use Rattle.trace.specs.declared.Write.{Write}
+use Rattle.trace.specs.Format.{little, write-bytes, sample-bytes, mark, version, header, encode}
 use Rattle.trace.specs.Reading.{field, same, write-count, sample-count, whole, form-refusal, write-at, sample-at, writes-from, samples-from, writes-of, samples-of}
 use Rattle.trace.proofs.Numbers.{length-little, number-little}
 

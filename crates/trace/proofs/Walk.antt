@@ -1,14 +1,21 @@
 -- The places of a file: first each write, then each sample, then the end; and content decides an accepted file.
 -- The idea: the two tests of `item` come out by comparing the place with the counts; the rest is that a file is rewritten. Assumes nothing.
+use mathlib.Core.Bool.{false}
 use mathlib.Core.List.{List}
-use mathlib.Core.Path.{_≡_, sym, ap, _∙_}
+use mathlib.Core.Path.{_≡_, refl, sym, ap, _∙_}
 use Prim.Native.Nat.{ℕ, suc, zero, _+_, _-_, _≤_, _<_, _^_}
 use native.Mathlib.Nat.{add-zero, add-suc, suc-add}
 use native.Mathlib.Omega.{arith}
+use lib.Dec.{eqb}
 use lib.ListN.{getD}
+use Rattle.refusals.specs.Samples.{bad-sample}
 use borrow.Author.Tests.{lt-ltb, le-ltb, le-leb, lt-leb}
-use Rattle.trace.specs.Format.{Write, encode}
-use Rattle.trace.specs.Reading.{a-write, a-sample, the-end, refused, checked, item, write-count, sample-count, form-refusal, write-at, sample-at, writes-from, samples-from, writes-of, samples-of}
+use Rattle.trace.specs.declared.Write.{Write}
+use Rattle.trace.specs.Answers.{number}
+use Rattle.trace.specs.declared.Refusal.{Refusal}
+use Rattle.trace.specs.declared.Refusal.the-variants.{SampleBits, Mark, Version, SampleCount, Length, WriteCount, Room}
+use Rattle.trace.specs.Format.{encode}
+use Rattle.trace.specs.Reading.{Item, a-write, a-sample, the-end, refused, checked, item, past, write-count, sample-count, form-refusal, write-at, sample-at, writes-from, samples-from, writes-of, samples-of}
 use Rattle.trace.proofs.Numbers.{Bytes}
 use Rattle.trace.proofs.Rewritten.{rewritten}
 
@@ -31,11 +38,11 @@ end-place f k h = rw (le-ltb k (write-count f) (omega arith), le-ltb _ _ h)
 
 -- A sample of 18 bits is given; one with a higher bit is refused.
 pub sample-given : (w : ℕ) → w < 2 ^ 18 → checked w ≡ a-sample w
-unfolding checked
+unfolding checked bad-sample
 sample-given w h = rw (lt-leb (2 ^ 18) w h)
 
 pub sample-refused : (w : ℕ) → 2 ^ 18 ≤ w → checked w ≡ refused 7
-unfolding checked
+unfolding checked bad-sample
 sample-refused w h = rw (le-leb (2 ^ 18) w h)
 
 -- The lists are what stands at the places: number k of each list is the item read there.
@@ -50,6 +57,24 @@ unfolding samples-from
 sample-number f k zero i d = λ h. absurd (omega arith)
 sample-number f k (suc n) zero d = λ h. rw add-zero
 sample-number f k (suc n) (suc i) d = λ h. rw (add-suc, ← suc-add) (sample-number f (suc k) n i d (omega arith))
+
+-- No refusal has the number of acceptance.
+pub never-zero : (e : Refusal) → eqb (number e) 0 ≡ false
+never-zero SampleBits = refl
+never-zero Mark = refl
+never-zero Version = refl
+never-zero SampleCount = refl
+never-zero Length = refl
+never-zero WriteCount = refl
+never-zero Room = refl
+
+-- A place moves by one at most.
+pub past-next : (place : ℕ) (it : Item) → past place it ≤ place + 1
+unfolding past
+past-next place (a-write w) = omega arith
+past-next place (a-sample w) = omega arith
+past-next place the-end = omega arith
+past-next place (refused n) = omega arith
 
 -- Two accepted files with the same writes and the same samples are the same file.
 pub content-decides : (f g : List ℕ) → Bytes f → Bytes g → form-refusal f ≡ 0 → form-refusal g ≡ 0

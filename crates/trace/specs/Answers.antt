@@ -2,11 +2,12 @@
 use Prim.Native.Nat.{ℕ}
 use Rattle.trace.specs.Reading as reading
 use Rattle.trace.specs.declared.Refusal.{Refusal}
-use Rattle.trace.specs.declared.Refusal.the-variants.{SampleBits, Mark, Version, SampleCount, Length}
+use Rattle.trace.specs.declared.Refusal.the-variants.{SampleBits, Mark, Version, SampleCount, Length, WriteCount, Room}
 use Rattle.trace.specs.declared.Form.{Form}
 use Rattle.trace.specs.declared.Form.the-variants as forms
 use Rattle.trace.specs.declared.Item.{Item}
 use Rattle.trace.specs.declared.Item.the-variants as items
+use Rattle.trace.specs.declared.Read.{Read}
 
 abbrev pub number : Refusal → ℕ
 number SampleBits = 7
@@ -14,6 +15,8 @@ number Mark = 10
 number Version = 11
 number SampleCount = 12
 number Length = 13
+number WriteCount = 14
+number Room = 15
 
 -- 0 of a file that passes the form checks, else the refusal's number.
 abbrev pub form : Form → ℕ
@@ -22,7 +25,11 @@ form (forms.Refused e) = number e
 
 -- A write, a sample, the end, or a refusal.
 abbrev pub item : Item → reading.Item
-item (items.Write offset value) = reading.a-write (record { offset = offset; value = value })
+item (items.Write w) = reading.a-write w
 item (items.Sample w) = reading.a-sample w
 item items.End = reading.the-end
 item (items.Refused e) = reading.refused (number e)
+
+-- What a reader found, and its place afterwards.
+abbrev pub read : Read → reading.Read
+read r = record { item = item (r .item); place = r .place }

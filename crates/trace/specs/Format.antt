@@ -2,16 +2,12 @@
 use mathlib.Core.List.{List, [], _∷_, _++_}
 use Prim.Native.Nat.{ℕ, zero, suc, _/_, _%_}
 use lib.ListN.{length}
+use Rattle.trace.specs.declared.Write.{Write}
 
 -- The n lowest bytes of a number, little-endian.
 unfoldable pub little : ℕ → ℕ → List ℕ
 little zero x = []
 little (suc n) x = x % 256 ∷ little n (x / 256)
-
--- A register write as the file has it: any offset byte, any 32-bit value.
-pub record Write : Type 0 where
-  pub offset : ℕ
-  pub value : ℕ
 
 -- Each write: offset (1) and value (4). Each sample: 3 bytes.
 unfoldable pub write-bytes : List Write → List ℕ

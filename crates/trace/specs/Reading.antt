@@ -1,11 +1,13 @@
 -- Reading a trace file: the form checks, and the item at a place (document 01, "Trace file, version 1" and "Refusal numbers").
 use mathlib.Core.Bool.{Bool, true, false, cond, not, _&&_}
 use mathlib.Core.List.{List, [], _∷_}
-use Prim.Native.Nat.{ℕ, zero, suc, _+_, _-_, _*_, _^_}
-use lib.Dec.{eqb, ltb, leb}
+use Prim.Native.Nat.{ℕ, zero, suc, _+_, _-_, _*_}
+use lib.Dec.{eqb, ltb}
 use lib.ListN.{length, take, drop}
 use Rattle.refusals.specs.Refusals.{_⇒_, first}
-use Rattle.trace.specs.Format.{Write, mark, version}
+use Rattle.refusals.specs.Samples.{bad-sample}
+use Rattle.trace.specs.declared.Write.{Write}
+use Rattle.trace.specs.Format.{mark, version}
 
 -- The number that some bytes are, little-endian; and that of n bytes of a file from a byte on.
 unfoldable pub number : List ℕ → ℕ
@@ -51,7 +53,7 @@ pub data Item : Type 0 where
 
 -- Refusal 7: a sample has a bit above 17.
 unfoldable pub checked : ℕ → Item
-checked w = cond (leb (2 ^ 18) w) (refused 7) (a-sample w)
+checked w = cond (bad-sample w) (refused 7) (a-sample w)
 
 -- Write number k, and sample number k, of a file.
 unfoldable pub write-at : List ℕ → ℕ → Write
@@ -73,6 +75,22 @@ past place (a-write w) = place + 1
 past place (a-sample w) = place + 1
 past place the-end = place
 past place (refused n) = place
+
+-- A reader at a place of a file: what it finds there once the file passes the form checks, and its place afterwards.
+pub record Read : Type 0 where
+  pub item : Item
+  pub place : ℕ
+
+unfoldable pub found : List ℕ → ℕ → Item
+found file place = cond (eqb (form-refusal file) 0) (item file place) (refused (form-refusal file))
+
+unfoldable pub read : List ℕ → ℕ → Read
+read file place = record { item = found file place; place = past place (found file place) }
+
+-- What n readings one after the other find, from a place on.
+unfoldable pub visits : List ℕ → ℕ → ℕ → List Item
+visits file place zero = []
+visits file place (suc n) = read file place .item ∷ visits file (read file place .place) n
 
 -- All writes and all samples of a file, in order, n of them from number k on.
 unfoldable pub writes-from : List ℕ → ℕ → ℕ → List Write

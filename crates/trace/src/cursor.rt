@@ -7,7 +7,10 @@ ghost use Rattle.trace.specs.Reading as reading;
 ghost use Rattle.trace.specs.Answers as answers;
 use crate::Form;
 use crate::Item;
+use crate::Read;
 use crate::Refusal;
+use crate::Write;
+use refusals::bad_sample;
 
 fn byte(file: &[u8], at: usize) -> u8
     ensures { λ r. ⌜ r ≡ getD (now (file .entry)) at 0 ⌝ }
@@ -103,7 +106,7 @@ pub fn check_form(file: &[u8]) -> Form
 fn checked(w: u32) -> Item
     ensures { λ r. ⌜ answers.item r ≡ reading.checked w ⌝ }
 {
-    if 262144 <= w {
+    if bad_sample(w) {
         return Item::Refused(Refusal::SampleBits);
     }
     Item::Sample(w)
@@ -112,16 +115,51 @@ fn checked(w: u32) -> Item
 // The item at a place: first the writes, then the samples, then the end.
 pub fn item_at(file: &[u8], place: usize) -> Item
     ensures { λ r. ⌜ answers.item r ≡ reading.item (now (file .entry)) place ⌝ }
+    ensures { λ r. ⌜ reading.past place (answers.item r) < 2 ^ 64 ⌝ }
 {
     let writes = one(file, 5) as usize;
     if place < writes {
         let offset = one(file, 8 + 5 * place);
         let value = four(file, 9 + 5 * place);
-        return Item::Write(offset, value);
+        return Item::Write(Write { offset, value });
     }
     let samples = two(file, 6) as usize;
     if place < writes + samples {
         return checked(three(file, 8 + 5 * writes + 3 * (place - writes)));
     }
     Item::End
+}
+
+// What stands at a place of a file that passes the form checks, or their refusal.
+fn found(file: &[u8], place: usize) -> Item
+    ensures { λ r. ⌜ answers.item r ≡ reading.found (now (file .entry)) place ⌝ }
+    ensures { λ r. ⌜ reading.past place (answers.item r) < 2 ^ 64 ⌝ }
+{
+    let form = check_form(file);
+    match form {
+        Form::Good => item_at(file, place),
+        Form::Refused(refusal) => Item::Refused(refusal),
+    }
+}
+
+// A reader's place after an item.
+fn past(place: usize, item: Item) -> usize
+    requires { ⌜ reading.past place (answers.item item) < 2 ^ 64 ⌝ }
+    ensures { λ r. ⌜ r ≡ reading.past place (answers.item item) ⌝ }
+{
+    match item {
+        Item::Write(_) => place + 1,
+        Item::Sample(_) => place + 1,
+        Item::End => place,
+        Item::Refused(_) => place,
+    }
+}
+
+// One reading: the item, or the refusal, at a place, and the place after it; at a refusal and at the end it stays.
+pub fn read_at(file: &[u8], place: usize) -> Read
+    ensures { λ r. ⌜ answers.read r ≡ reading.read (now (file .entry)) place ⌝ }
+{
+    let item = found(file, place);
+    let next = past(place, item);
+    Read { item, place: next }
 }

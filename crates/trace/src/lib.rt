@@ -7,14 +7,17 @@ mod cursor;
 
 pub use cursor::check_form;
 pub use cursor::item_at;
+pub use cursor::read_at;
 
-// Why a file, or an item of one, is refused.
+// Why a file, an item of one, or a file to be written is refused.
 pub enum Refusal {
     SampleBits,
     Mark,
     Version,
     SampleCount,
     Length,
+    WriteCount,
+    Room,
 }
 
 impl Refusal {
@@ -28,6 +31,8 @@ impl Refusal {
             Refusal::Version => 11,
             Refusal::SampleCount => 12,
             Refusal::Length => 13,
+            Refusal::WriteCount => 14,
+            Refusal::Room => 15,
         }
     }
 }
@@ -38,10 +43,22 @@ pub enum Form {
     Refused(Refusal),
 }
 
+// A register write as a file has it: any offset byte, any 32-bit value.
+pub struct Write {
+    pub offset: u8,
+    pub value: u32,
+}
+
 // What stands at a place of a file.
 pub enum Item {
-    Write(u8, u32),
+    Write(Write),
     Sample(u32),
     End,
     Refused(Refusal),
+}
+
+// What a reader found at its place, and its place afterwards.
+pub struct Read {
+    pub item: Item,
+    pub place: usize,
 }

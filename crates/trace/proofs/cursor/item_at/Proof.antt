@@ -2,7 +2,10 @@
 -- Each return unfolds the definition and rewrites by what the calls gave and by the tests on the way there.
 use borrow.Author.Needs.{needs}
 use borrow.Author.Tests.{le-ltb, lt-ltb}
-use Rattle.trace.specs.Reading.{item, sample-at, write-at}
+use native.Mathlib.Omega.{arith}
+use Rattle.trace.specs.Answers as answers
+use Rattle.trace.specs.Reading.{item, past, sample-at, write-at}
+use Rattle.trace.proofs.Walk.{past-next}
 use Rattle.trace.proofs.cursor.item_at.Statement.{statement}
 use Rattle.trace.proofs.cursor.item_at.Tie as tie
 
@@ -31,14 +34,16 @@ four-requires : tie.Need-four-requires
 four-requires c κs = search needs
 
 returns : tie.Need-returns
-unfolding item write-at sample-at
-returns c =
-    rw (
-      ← c .before .before .before .one .ensures,
-      lt-ltb _ _ (c .before .before .if1 .taken),
-      ← c .before .one2 .ensures,
-      ← c .four .ensures,
-    )
+unfolding item write-at sample-at past
+returns c = (
+  rw (
+    ← c .before .before .before .one .ensures,
+    lt-ltb _ _ (c .before .before .if1 .taken),
+    ← c .before .one2 .ensures,
+    ← c .four .ensures,
+  ),
+  omega (arith, c .before .before .if1 .taken),
+)
 
 two-requires : tie.Need-two-requires
 two-requires c κs = search needs
@@ -68,26 +73,30 @@ checked-requires : tie.Need-checked-requires
 checked-requires c κs = search needs
 
 returns-2 : tie.Need-returns-2
-unfolding item write-at sample-at
-returns-2 c =
-    rw (
-      ← c .before .before .before .before .before .one .ensures,
-      le-ltb _ _ (c .before .before .before .before .if1 .left),
-      ← c .before .before .before .two .ensures .0,
-      lt-ltb _ _ (c .before .before .if2 .taken),
-      ← c .before .three .ensures .0,
-      ← c .checked .ensures,
-    )
+unfolding item write-at sample-at past
+returns-2 c = (
+  rw (
+    ← c .before .before .before .before .before .one .ensures,
+    le-ltb _ _ (c .before .before .before .before .if1 .left),
+    ← c .before .before .before .two .ensures .0,
+    lt-ltb _ _ (c .before .before .if2 .taken),
+    ← c .before .three .ensures .0,
+    ← c .checked .ensures,
+  ),
+  omega (arith, past-next (c .before .before .before .before .before .before .before .args .place) (answers.item (c .checked .result)), c .before .before .if2 .taken),
+)
 
 returns-3 : tie.Need-returns-3
-unfolding item write-at sample-at
-returns-3 c =
-    rw (
-      ← c .before .before .before .one .ensures,
-      le-ltb _ _ (c .before .before .if1 .left),
-      ← c .before .two .ensures .0,
-      le-ltb _ _ (c .if2 .left),
-    )
+unfolding item write-at sample-at past
+returns-3 c = (
+  rw (
+    ← c .before .before .before .one .ensures,
+    le-ltb _ _ (c .before .before .if1 .left),
+    ← c .before .two .ensures .0,
+    le-ltb _ _ (c .if2 .left),
+  ),
+  search needs,
+)
 
 pub item-at-spec : {M : Type 1} → statement M
 item-at-spec =

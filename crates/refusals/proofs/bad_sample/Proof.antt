@@ -1,9 +1,9 @@
--- `device::runs::bad_sample` meets its contract. Assumes nothing.
+-- `refusals::bad_sample` meets its contract. Assumes nothing.
 -- Each return unfolds the definition and rewrites by what the calls gave and by the tests on the way there.
 use mathlib.Core.Path.{refl}
-use Rattle.rules.specs.Run.{bad-sample}
-use Rattle.device.proofs.runs.bad_sample.Statement.{statement}
-use Rattle.device.proofs.runs.bad_sample.Tie as tie
+use Rattle.refusals.specs.Samples.{bad-sample}
+use Rattle.refusals.proofs.bad_sample.Statement.{statement}
+use Rattle.refusals.proofs.bad_sample.Tie as tie
 
 returns : tie.Need-returns
 unfolding bad-sample
