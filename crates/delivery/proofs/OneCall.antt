@@ -9,8 +9,7 @@ use native.Mathlib.Omega.{arith}
 use lib.Dec.{eqb, ltb}
 use lib.ListN.{length, take, drop}
 use borrow.Author.Tests.{eqb-true, ltb-false}
-use Rattle.refusals.specs.Refusals.{_⇒_}
-use Rattle.rules.specs.Answers.{refused, answered}
+use Rattle.refusals.specs.Refusals.{_⇒_, refused, answered}
 use Rattle.rules.specs.Queue.{Packed}
 use Rattle.rules.specs.WellFormed.{malformed}
 use Rattle.refusals.specs.Samples.{any-bad}

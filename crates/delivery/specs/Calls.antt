@@ -7,7 +7,7 @@ use Prim.Native.Nat.{ℕ, _+_, _<_, _^_}
 use lib.Dec.{eqb}
 use lib.ListN.{length, take, drop}
 use Rattle.rules.specs.declared.Device.{Device}
-use Rattle.rules.specs.Answers.{Answer, refused, answered}
+use Rattle.refusals.specs.Refusals.{Answer, refused, answered}
 use Rattle.rules.specs.Queue.{Packed}
 use Rattle.rules.specs.RegisterCalls.{write}
 use Rattle.rules.specs.Run.{step, run-refusal, run, SampleAnswer, sample}

@@ -3,7 +3,8 @@ use mathlib.Core.Bool.{Bool, true, false}
 use mathlib.Core.List.{List}
 use Prim.Native.Nat.{ℕ}
 use Rattle.rules.specs.declared.Device.{Device}
-use Rattle.rules.specs.Answers.{Answer, refused, answered, Changed}
+use Rattle.refusals.specs.Refusals.{Answer, refused, answered}
+use Rattle.rules.specs.Answers.{Changed}
 use Rattle.rules.specs.Run.{Ran, RunResult, SampleAnswer, SampleResult}
 use Rattle.sampling.specs.Answers.{landing, packing}
 use Rattle.device.specs.declared.Refusal.{Refusal}

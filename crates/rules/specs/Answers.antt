@@ -1,17 +1,8 @@
--- What calls answer (document 01, "Refusal numbers"; how a refusal is found is in the crate `refusals`).
+-- What calls that change the device leave (document 01, "Refusal numbers"; how a refusal is found is in the crate `refusals`).
 use mathlib.Core.Bool.{cond}
 use Prim.Native.Nat.{ℕ}
 use lib.Dec.{eqb}
 use Rattle.rules.specs.declared.Device.{Device}
-
--- A call that answers a value: a refusal returns its number and no value.
-pub data Answer (A : Type 0) : Type 0 where
-  refused : ℕ → Answer A
-  answered : A → Answer A
-
--- The answer from the refusal number (0: none) and the value of an accepted call.
-abbrev pub answer : {A : Type 0} → ℕ → A → Answer A
-answer {A} number value = cond (eqb number 0) (answered value) (refused number)
 
 -- A call that changes the device: the refusal number, 0 where the call is accepted, and the device it leaves.
 pub record Changed : Type 0 where

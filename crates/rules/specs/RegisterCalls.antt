@@ -19,8 +19,8 @@ use Rattle.rules.specs.declared.Capture.{Capture}
 use Rattle.rules.specs.declared.Device.{Device}
 use Rattle.rules.specs.State.{not-blanking, close-frame, with-cr, with-ris, with-ier, with-cwstrt, with-cwsize, with-registers, with-syncs, with-frame, with-rate, with-capture}
 use Rattle.rules.specs.Queue.{discard}
-use Rattle.refusals.specs.Refusals.{Test, _⇒_, first}
-use Rattle.rules.specs.Answers.{Answer, answer, Changed, change}
+use Rattle.refusals.specs.Refusals.{Test, _⇒_, first, Answer, answer}
+use Rattle.rules.specs.Answers.{Changed, change}
 use Rattle.rules.specs.WellFormed.{malformed, is-open}
 
 -- n where a test holds, else 0.

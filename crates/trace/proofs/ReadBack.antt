@@ -72,6 +72,14 @@ unfolding sample-bytes
 length-sample-bytes [] = refl
 length-sample-bytes (s ∷ ss) = simp (length-append, length-little) (omega (arith, length-sample-bytes ss))
 
+pub length-header : (writes samples : ℕ) → length (header writes samples) ≡ 8
+unfolding header
+length-header writes samples = simp (length-append, length-little)
+
+pub length-encode : (ws : List Write) (ss : List ℕ) → length (encode ws ss) ≡ 8 + 5 * length ws + 3 * length ss
+unfolding encode
+length-encode ws ss = simp (length-append, length-header, length-write-bytes, length-sample-bytes)
+
 -- A file that passes the five tests has good form.
 pub good-form : (f : List ℕ) → 8 ≤ length f → same (take 3 f) mark ≡ true → field f 3 2 ≡ version → sample-count f ≤ 16384 → length f ≡ whole f
     → form-refusal f ≡ 0
@@ -97,10 +105,6 @@ module _ (ws : List Write) (ss : List ℕ) (fits : Fits ws ss) where
       read-field (encode ws ss) mark (little 1 (length ws) ++ (little 2 (length ss) ++ (write-bytes ws ++ sample-bytes ss))) 3 2 version
       (simp append-assoc) refl (omega arith)
 
-  length-header : length (header (length ws) (length ss)) ≡ 8
-  unfolding header
-  length-header = simp (length-append, length-little)
-
   pub length-back : length (encode ws ss) ≡ whole (encode ws ss)
   unfolding encode
   length-back = rw (write-count-back, sample-count-back) (simp (length-append, length-header, length-write-bytes, length-sample-bytes))
@@ -117,7 +121,7 @@ module _ (ws : List Write) (ss : List ℕ) (fits : Fits ws ss) where
   pub writes-back : writes-of (encode ws ss) ≡ ws
   unfolding encode
   writes-back =
-      rw write-count-back (read-writes ws (encode ws ss) (header (length ws) (length ss)) (sample-bytes ss) 0 (simp append-assoc) length-header (fits .writes))
+      rw write-count-back (read-writes ws (encode ws ss) (header (length ws) (length ss)) (sample-bytes ss) 0 (simp append-assoc) (length-header (length ws) (length ss)) (fits .writes))
 
   pub samples-back : samples-of (encode ws ss) ≡ ss
   unfolding encode

@@ -1,4 +1,5 @@
 -- The paper's number and values of each case of the reader's answers.
+use mathlib.Core.List.{List}
 use Prim.Native.Nat.{ℕ}
 use Rattle.trace.specs.Reading as reading
 use Rattle.trace.specs.declared.Refusal.{Refusal}
@@ -8,6 +9,10 @@ use Rattle.trace.specs.declared.Form.the-variants as forms
 use Rattle.trace.specs.declared.Item.{Item}
 use Rattle.trace.specs.declared.Item.the-variants as items
 use Rattle.trace.specs.declared.Read.{Read}
+use Rattle.refusals.specs.Refusals as refusals
+use Rattle.trace.specs.Writing.{WriteResult}
+use Rattle.trace.specs.declared.Written.{Written}
+use Rattle.trace.specs.declared.Written.the-variants as outcomes
 
 abbrev pub number : Refusal → ℕ
 number SampleBits = 7
@@ -33,3 +38,11 @@ item (items.Refused e) = reading.refused (number e)
 -- What a reader found, and its place afterwards.
 abbrev pub read : Read → reading.Read
 read r = record { item = item (r .item); place = r .place }
+
+-- The length of the file that was written, or a refusal; with the buffer that is left.
+abbrev pub length : Written → refusals.Answer ℕ
+length (outcomes.Length n) = refusals.answered n
+length (outcomes.Refused e) = refusals.refused (number e)
+
+abbrev pub written : Written → List ℕ → WriteResult
+written w buffer = record { answer = length w; buffer = buffer }

@@ -21,7 +21,7 @@ fn byte(file: &[u8], at: usize) -> u8
     0
 }
 
-fn wide(x: u8) -> u32
+pub fn wide(x: u8) -> u32
     ensures { λ r. ⌜ r ≡ x ⌝ }
     ensures { λ r. ⌜ r < 2 ^ 8 ⌝ }
 {

@@ -4,10 +4,12 @@ ghost use mathlib.Core.Path.{_≡_};
 ghost use Rattle.trace.specs.Answers as answers;
 
 mod cursor;
+mod writer;
 
 pub use cursor::check_form;
 pub use cursor::item_at;
 pub use cursor::read_at;
+pub use writer::encode;
 
 // Why a file, an item of one, or a file to be written is refused.
 pub enum Refusal {
@@ -61,4 +63,10 @@ pub enum Item {
 pub struct Read {
     pub item: Item,
     pub place: usize,
+}
+
+// The answer of the writer: the length of the file that it wrote, or why it wrote none.
+pub enum Written {
+    Length(usize),
+    Refused(Refusal),
 }

@@ -1,0 +1,112 @@
+// The writer: a trace file of some writes and samples into a lent buffer.
+ghost use mathlib.Core.Path.{_≡_};
+ghost use mathlib.Core.List.{_++_};
+ghost use Prim.Native.Nat.{_+_, _*_, _≤_};
+ghost use lib.ListN.{length};
+ghost use lib.Seq.{sets};
+ghost use Rattle.trace.specs.Format as format;
+ghost use Rattle.trace.specs.Writing as writing;
+ghost use Rattle.trace.specs.Answers as answers;
+use crate::Refusal;
+use crate::Written;
+use crate::cursor::wide;
+use refusals::any_bad;
+
+// The n lowest bytes of a number, from a byte on.
+fn put(out: &mut [u8], at: usize, n: usize, x: u32)
+    requires { ⌜ at + n ≤ length (now out) ⌝ }
+    ensures { λ _. ⌜ now (out .exit) ≡ sets (now (out .entry)) at (format.little n x) ⌝ }
+{
+    let mut place = at;
+    let mut left = n;
+    let mut rest = x;
+    while 0 < left {
+        out[place] = (rest % 256) as u8;
+        place += 1;
+        left -= 1;
+        rest /= 256;
+    }
+}
+
+// The mark, the version and the two numbers.
+fn put_header(out: &mut [u8], writes: u32, samples: u32)
+    requires { ⌜ 8 ≤ length (now out) ⌝ }
+    ensures { λ _. ⌜ now (out .exit) ≡ sets (now (out .entry)) 0 (format.header writes samples) ⌝ }
+{
+    put(out, 0, 3, 0x544746);
+    put(out, 3, 2, 1);
+    put(out, 5, 1, writes);
+    put(out, 6, 2, samples);
+}
+
+// The offset and the value of a write, from a byte on.
+fn put_write(out: &mut [u8], at: usize, offset: u8, value: u32)
+    requires { ⌜ at + 5 ≤ length (now out) ⌝ }
+    ensures { λ _. ⌜ now (out .exit) ≡ sets (now (out .entry)) at (format.little 1 offset ++ format.little 4 value) ⌝ }
+{
+    put(out, at, 1, wide(offset));
+    put(out, at + 1, 4, value);
+}
+
+// The writes, from byte 8 on.
+fn put_writes(out: &mut [u8], count: usize, offsets: &[u8; 255], values: &[u32; 255])
+    requires { ⌜ count ≤ 255 ⌝ }
+    requires { ⌜ 8 + 5 * count ≤ length (now out) ⌝ }
+    ensures { λ _. ⌜ now (out .exit) ≡ sets (now (out .entry)) 8 (format.write-bytes (writing.given count (now (offsets .entry)) (now (values .entry)))) ⌝ }
+{
+    let mut i = 0;
+    while i < count {
+        put_write(out, 8 + 5 * i, offsets[i], values[i]);
+        i += 1;
+    }
+}
+
+// The samples, from a byte on.
+fn put_samples(out: &mut [u8], at: usize, samples: &[u32])
+    requires { ⌜ at + 3 * length (now samples) ≤ length (now out) ⌝ }
+    ensures { λ _. ⌜ now (out .exit) ≡ sets (now (out .entry)) at (format.sample-bytes (now (samples .entry))) ⌝ }
+{
+    let mut i = 0;
+    while i < samples.len() {
+        put(out, at + 3 * i, 3, samples[i]);
+        i += 1;
+    }
+}
+
+// The whole file, from the first byte on.
+fn put_file(out: &mut [u8], count: usize, offsets: &[u8; 255], values: &[u32; 255], samples: &[u32])
+    requires { ⌜ (count ≤ 255) × (length (now samples) ≤ 16384) × (8 + 5 * count + 3 * length (now samples) ≤ length (now out)) ⌝ }
+    ensures { λ _. ⌜ now (out .exit) ≡ sets (now (out .entry)) 0 (format.encode (writing.given count (now (offsets .entry)) (now (values .entry))) (now (samples .entry))) ⌝ }
+{
+    put_header(out, count as u32, samples.len() as u32);
+    put_writes(out, count, offsets, values);
+    put_samples(out, 8 + 5 * count, samples);
+}
+
+// A trace file of the first writes, as many as the count says, and the samples: its length, or a refusal, 14, 12, 7 or 15. Refused, every byte of
+// the buffer stays; accepted, the bytes after the file stay.
+pub fn encode(
+    count: usize,
+    offsets: &[u8; 255],
+    values: &[u32; 255],
+    samples: &[u32],
+    out: &mut [u8],
+) -> Written
+    ensures { λ r. ⌜ answers.written r (now (out .exit)) ≡ writing.write (writing.given count (now (offsets .entry)) (now (values .entry))) (now (samples .entry)) (now (out .entry)) ⌝ }
+{
+    if 255 < count {
+        return Written::Refused(Refusal::WriteCount);
+    }
+    if 16384 < samples.len() {
+        return Written::Refused(Refusal::SampleCount);
+    }
+    if any_bad(samples) {
+        return Written::Refused(Refusal::SampleBits);
+    }
+    let length = 8 + 5 * count + 3 * samples.len();
+    if out.len() < length {
+        return Written::Refused(Refusal::Room);
+    }
+    put_file(out, count, offsets, values, samples);
+    Written::Length(length)
+}
