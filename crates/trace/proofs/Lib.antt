@@ -1,5 +1,6 @@
 pub mod Fields
 pub mod Filling
+pub mod Held
 pub mod Numbers
 pub mod ReadBack
 pub mod Rewritten

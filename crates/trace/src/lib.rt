@@ -1,14 +1,19 @@
-// The trace file, version 1: the form checks, and one item at a time from a slice and a place. It knows nothing of the device. Each
-// function answers for every slice and number, and states its answer as an equation with a definition of specs/.
+// The trace file, version 1: the form checks; one item at a time, from a slice and a place or from a reader that holds them; the writer. It knows
+// nothing of the device. Each function answers for every slice and number, and states its answer as an equation with a definition of specs/.
 ghost use mathlib.Core.Path.{_≡_};
 ghost use Rattle.trace.specs.Answers as answers;
 
 mod cursor;
+mod reader;
 mod writer;
 
 pub use cursor::check_form;
 pub use cursor::item_at;
-pub use cursor::read_at;
+pub use reader::Reader;
+pub use reader::next;
+pub use reader::open;
+pub use reader::place;
+pub use reader::read_once;
 pub use writer::encode;
 
 // Why a file, an item of one, or a file to be written is refused.
