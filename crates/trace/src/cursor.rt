@@ -102,6 +102,14 @@ pub fn check_form(file: &[u8]) -> Form
     Form::Refused(Refusal::Mark)
 }
 
+// The number of writes, which is the place of the first sample.
+pub fn write_count(file: &[u8]) -> usize
+    ensures { λ r. ⌜ r ≡ reading.write-count (now (file .entry)) ⌝ }
+    ensures { λ r. ⌜ r < 2 ^ 8 ⌝ }
+{
+    one(file, 5) as usize
+}
+
 // A sample, or refusal 7.
 fn checked(w: u32) -> Item
     ensures { λ r. ⌜ answers.item r ≡ reading.checked w ⌝ }

@@ -9,6 +9,7 @@ mod writer;
 
 pub use cursor::check_form;
 pub use cursor::item_at;
+pub use cursor::write_count;
 pub use reader::Reader;
 pub use reader::next;
 pub use reader::open;

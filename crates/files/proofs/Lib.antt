@@ -1,0 +1,3 @@
+pub mod Items
+pub mod Samples
+pub mod SettingUp

@@ -1,0 +1,84 @@
+-- The register writes of a file, one after the other: what is left of them leads from the present device to the same end as all from a fresh one.
+-- The idea: one write takes the head of what is left; a write keeps a device well-formed and counts no sample. Assumes nothing.
+use mathlib.Core.Bool.{Bool, true, false}
+use mathlib.Core.List.{List, [], _∷_}
+use mathlib.Core.Path.{_≡_, refl, sym, ap, _∙_}
+use Prim.Native.Nat.{ℕ, suc, _+_, _-_, _≤_, _<_, _^_}
+use native.Mathlib.Numerals.{add-one}
+use native.Mathlib.Omega.{arith}
+use lib.Dec.{eqb}
+use Rattle.registers.specs.Map.{register-at}
+use Rattle.registers.specs.declared.Found.{Found}
+use Rattle.registers.specs.declared.Found.the-variants.{At, Nothing}
+use Rattle.rules.specs.declared.Device.{Device}
+use Rattle.rules.specs.State.{fresh, with-capture}
+use Rattle.rules.specs.Answers.{Changed}
+use Rattle.rules.specs.Queue.{discard}
+use Rattle.rules.specs.RegisterCalls.{disables, write-refusal, write-at, write}
+use Rattle.rules.specs.WellFormed.{malformed}
+use Rattle.rules.proofs.Booleans.{either}
+use Rattle.laws.proofs.Keeps.{fresh-well-formed}
+use Rattle.laws.proofs.KeepsWrites.{write-keeps}
+use Rattle.trace.specs.declared.Write.{Write}
+use Rattle.trace.specs.Reading as reading
+use Rattle.trace.proofs.Walk.{write-found}
+use Rattle.files.specs.File.{set-up}
+
+found-samples : (d : Device) (r : Found) (v : ℕ) → write-at d r v .counts .samples ≡ d .counts .samples
+unfolding write-at with-capture discard
+found-samples d Nothing v = refl
+found-samples d (At r) v = either (λ (e : Device). e .counts .samples ≡ d .counts .samples) (disables (d .capture .registers .cr) r v) refl refl
+
+pub write-samples : (d : Device) (offset v : ℕ) → write d offset v .device .counts .samples ≡ d .counts .samples
+unfolding write
+write-samples d offset v =
+    either (λ (e : Device). e .counts .samples ≡ d .counts .samples) (eqb (write-refusal d offset v) 0) (found-samples d (register-at offset) v) refl
+
+pub record Setting (file : List ℕ) (d : Device) (place : ℕ) : Type 0 where
+  pub leads : set-up d (reading.writes-from file place (reading.write-count file - place)) ≡ set-up fresh (reading.writes-of file)
+  pub well : malformed d ≡ false
+  pub samples : d .counts .samples ≡ 0
+  pub within : place ≤ reading.write-count file
+
+pub starting : (file : List ℕ) → Setting file fresh 0
+unfolding fresh
+starting file =
+    let all : reading.write-count file - 0 ≡ reading.write-count file = omega arith in
+    record { leads = rw all; well = fresh-well-formed; samples = refl; within = omega arith }
+
+module _ {file : List ℕ} {d : Device} {place : ℕ} (s : Setting file d place) where
+  -- A write is taken from the file: the first of what is left.
+  next : place < reading.write-count file
+      → reading.writes-from file place (reading.write-count file - place) ≡ reading.write-at file place ∷ reading.writes-from file (place + 1) (reading.write-count file - (place + 1))
+  unfolding reading.writes-from
+  next h =
+      let n : reading.write-count file - place ≡ suc (reading.write-count file - (place + 1)) = omega arith in
+      rw (n, add-one)
+
+  -- Either way the device is well-formed and has counted no sample.
+  pub setting-keeps : (w : Write) (r : Changed) → w .value < 2 ^ 32 → r ≡ write d (w .offset) (w .value) → (malformed (r .device) ≡ false) × (r .device .counts .samples ≡ 0)
+  setting-keeps w r small a = (rw a (write-keeps d (w .offset) (w .value) small (s .well)), rw (a, write-samples) (s .samples))
+
+  -- Accepted, the rest of the writes is left.
+  pub setting-on : (w : Write) (r : Changed) → reading.item file place ≡ reading.a-write w → w .value < 2 ^ 32 → r ≡ write d (w .offset) (w .value)
+      → r .number ≡ 0 → Setting file (r .device) (place + 1)
+  unfolding set-up
+  setting-on w r e small a taken =
+      let (inside, same) = write-found file place w e in
+      let (well, none) = setting-keeps w r small a in
+      record { leads = rw (next inside, same, ← a, taken) at (s .leads); well = well; samples = none; within = omega (arith, inside) }
+
+  -- Refused, this is the end.
+  pub setting-refused : (w : Write) (r : Changed) → reading.item file place ≡ reading.a-write w → r ≡ write d (w .offset) (w .value) → eqb (r .number) 0 ≡ false
+      → r ≡ set-up fresh (reading.writes-of file)
+  unfolding set-up
+  setting-refused w r e a refused =
+      let (inside, same) = write-found file place w e in
+      rw (next inside, same, ← a, refused) at (s .leads)
+
+  -- No write is left.
+  pub setting-end : reading.write-count file ≤ place → set-up fresh (reading.writes-of file) ≡ record { number = 0; device = d }
+  unfolding set-up reading.writes-from
+  setting-end h =
+      let n : reading.write-count file - place ≡ 0 = omega arith in
+      sym (rw n at (s .leads))
