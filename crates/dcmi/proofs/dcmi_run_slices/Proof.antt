@@ -1,0 +1,43 @@
+-- `dcmi::dcmi_run_slices` meets its contract. Assumes nothing.
+-- Each return unfolds the definition and rewrites by what the calls gave and by the tests on the way there.
+use borrow.Author.Needs.{needs}
+use mathlib.Core.Path.{_∙_}
+use Rattle.dcmi.proofs.Stored.{run-stored}
+use Rattle.dcmi.specs.Calls.{run}
+use Rattle.dcmi.proofs.dcmi_run_slices.Statement.{statement}
+use Rattle.dcmi.proofs.dcmi_run_slices.Tie as tie
+
+encodes-requires : tie.Need-encodes-requires
+encodes-requires c κs = search needs
+
+device-of-requires : tie.Need-device-of-requires
+device-of-requires c κs = search needs
+
+run-requires : tie.Need-run-requires
+run-requires c κs = search needs
+
+store-requires : tie.Need-store-requires
+store-requires c κs = search needs
+
+same-length : tie.Need-same-length
+same-length c = search needs
+
+returns : tie.Need-returns
+unfolding run
+returns c = run-stored (c .before .before .before .before .before .before .before .before .before .before .before .before .args .image .now) _ (c .before .before .before .before .run .result) (c .store .ensures) (c .before .before .before .before .run .ensures) ∙ rw (c .before .before .before .before .before .before .device-of .ensures, ← c .before .before .before .before .before .before .before .before .encodes .ensures, c .before .before .before .before .before .before .before .if1 .taken)
+
+returns-2 : tie.Need-returns-2
+unfolding run
+returns-2 c = rw (← c .before .encodes .ensures, c .if1 .left)
+
+pub dcmi-run-slices-spec : {M : Type 1} → statement M
+dcmi-run-slices-spec =
+    tie.close
+    (tie.spec
+    encodes-requires
+    device-of-requires
+    run-requires
+    store-requires
+    same-length
+    returns
+    returns-2)

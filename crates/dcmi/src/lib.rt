@@ -1,0 +1,327 @@
+// The C interface: what include/dcmi.h declares, on numbers and bytes. A device is an image of 26 words that the caller owns. Each function answers 0
+// or a refusal number for every input, has no `requires`, and states its whole result, the image, the memory and the outputs that it leaves, as one
+// equation with a definition of specs/; refused, all of them are as they were.
+ghost use mathlib.Core.Path.{_≡_};
+ghost use Rattle.device.specs.Answers as answers;
+ghost use Rattle.files.specs.Answers as file-answers;
+ghost use Rattle.sampling.specs.Answers as sample-answers;
+ghost use Rattle.trace.specs.Answers as trace-answers;
+ghost use Rattle.trace.specs.Writing as writing;
+ghost use Rattle.dcmi.specs.Calls as calls;
+use device::Line;
+use device::Outcome;
+use device::Reading;
+use device::Reply;
+use device::Sampled;
+use device::Written;
+use files::Ran;
+use image::device_of;
+use image::encodes;
+use image::image_of;
+use sampling::Landing;
+use sampling::Packing;
+use trace::Item;
+use trace::Read;
+
+// The image after a call that changes the device.
+fn store(image: &mut [u32; 26], after: Written) -> u32
+    ensures { λ r. ⌜ calls.called r (now (image .exit)) ≡ calls.changed (now (image .entry)) (answers.written after) ⌝ }
+{
+    let outcome = after.outcome;
+    match outcome {
+        Outcome::Accepted => {
+            let d = after.device;
+            *image = image_of(d);
+            return 0;
+        }
+        Outcome::Refused(refusal) => {
+            return refusal.number();
+        }
+    }
+}
+
+// A fresh device.
+#[no_mangle]
+pub extern "C" fn dcmi_reset(image: &mut [u32; 26]) -> u32
+    ensures { λ r. ⌜ calls.called r (now (image .exit)) ≡ calls.reset ⌝ }
+{
+    let d = device::fresh();
+    *image = image_of(d);
+    0
+}
+
+// A register write.
+#[no_mangle]
+pub extern "C" fn dcmi_write(image: &mut [u32; 26], offset: u32, value: u32) -> u32
+    ensures { λ r. ⌜ calls.called r (now (image .exit)) ≡ calls.write (now (image .entry)) offset value ⌝ }
+{
+    let words = *image;
+    if encodes(words) {
+        let after = device::write(device_of(words), offset, value);
+        return store(image, after);
+    }
+    1
+}
+
+// The next word goes to place 0.
+#[no_mangle]
+pub extern "C" fn dcmi_rearm(image: &mut [u32; 26]) -> u32
+    ensures { λ r. ⌜ calls.called r (now (image .exit)) ≡ calls.rearm (now (image .entry)) ⌝ }
+{
+    let words = *image;
+    if encodes(words) {
+        let after = device::rearm(device_of(words));
+        return store(image, after);
+    }
+    1
+}
+
+fn put_reading(reading: Reading, value: &mut u32) -> u32
+    ensures { λ r. ⌜ calls.gave r (now (value .exit)) ≡ calls.got (now (value .entry)) (answers.reading reading) ⌝ }
+{
+    match reading {
+        Reading::Value(v) => {
+            *value = v;
+            return 0;
+        }
+        Reading::Refused(refusal) => {
+            return refusal.number();
+        }
+    }
+}
+
+// A register read.
+#[no_mangle]
+pub extern "C" fn dcmi_read(image: &[u32; 26], offset: u32, value: &mut u32) -> u32
+    ensures { λ r. ⌜ calls.gave r (now (value .exit)) ≡ calls.read (now (image .entry)) offset (now (value .entry)) ⌝ }
+{
+    let words = *image;
+    if encodes(words) {
+        let reading = device::read(device_of(words), offset);
+        return put_reading(reading, value);
+    }
+    1
+}
+
+fn put_line(line: Line, level: &mut u32) -> u32
+    ensures { λ r. ⌜ calls.gave r (now (level .exit)) ≡ calls.got-line (now (level .entry)) (answers.line line) ⌝ }
+{
+    match line {
+        Line::Up => {
+            *level = 1;
+            return 0;
+        }
+        Line::Down => {
+            *level = 0;
+            return 0;
+        }
+        Line::Refused(refusal) => {
+            return refusal.number();
+        }
+    }
+}
+
+// The interrupt line: 1 up, 0 down.
+#[no_mangle]
+pub extern "C" fn dcmi_interrupt(image: &[u32; 26], level: &mut u32) -> u32
+    ensures { λ r. ⌜ calls.gave r (now (level .exit)) ≡ calls.interrupt (now (image .entry)) (now (level .entry)) ⌝ }
+{
+    let words = *image;
+    if encodes(words) {
+        let line = device::interrupt(device_of(words));
+        return put_line(line, level);
+    }
+    1
+}
+
+// A run of samples over the memory from the start byte on.
+#[no_mangle]
+pub extern "C" fn dcmi_run_slices(
+    image: &mut [u32; 26],
+    memory: &mut [u8],
+    start: usize,
+    samples: &[u32],
+) -> u32
+    ensures { λ r. ⌜ calls.run-called r (now (image .exit)) (now (memory .exit)) ≡ calls.run (now (image .entry)) (now (memory .entry)) start (now (samples .entry)) ⌝ }
+{
+    let words = *image;
+    if encodes(words) {
+        let after = device::run(device_of(words), memory, start, samples);
+        return store(image, after);
+    }
+    1
+}
+
+fn store_ran(image: &mut [u32; 26], after: Ran) -> u32
+    ensures { λ r. ⌜ calls.called r (now (image .exit)) ≡ calls.file-stored (now (image .entry)) (file-answers.answer (after .outcome) (after .device)) ⌝ }
+{
+    let outcome = after.outcome;
+    match outcome {
+        files::Outcome::Accepted => {
+            let d = after.device;
+            *image = image_of(d);
+            return 0;
+        }
+        files::Outcome::Refused(refusal) => {
+            return refusal.number();
+        }
+    }
+}
+
+// A trace file on a fresh device, over the memory from the start byte on.
+#[no_mangle]
+pub extern "C" fn dcmi_run_file_slices(
+    image: &mut [u32; 26],
+    file: &[u8],
+    memory: &mut [u8],
+    start: usize,
+) -> u32
+    ensures { λ r. ⌜ calls.run-called r (now (image .exit)) (now (memory .exit)) ≡ calls.run-file (now (image .entry)) (now (file .entry)) (now (memory .entry)) start ⌝ }
+{
+    let after = files::run_file(file, memory, start);
+    store_ran(image, after)
+}
+
+fn landed_word(landing: Landing) -> u64
+    ensures { λ r. ⌜ r ≡ calls.landed-word (sample-answers.landing landing) ⌝ }
+{
+    match landing {
+        Landing::Nowhere => 0,
+        Landing::At(_) => 1,
+    }
+}
+
+fn byte_word(landing: Landing) -> u64
+    ensures { λ r. ⌜ r ≡ calls.byte-word (sample-answers.landing landing) ⌝ }
+{
+    match landing {
+        Landing::Nowhere => 0,
+        Landing::At(byte) => byte as u64,
+    }
+}
+
+fn packed_word(packing: Packing) -> u64
+    ensures { λ r. ⌜ r ≡ calls.packed-word (sample-answers.packing packing) ⌝ }
+{
+    match packing {
+        Packing::Nothing => 0,
+        Packing::Completed(_) => 1,
+        Packing::Lost => 2,
+    }
+}
+
+fn value_word(packing: Packing) -> u64
+    ensures { λ r. ⌜ r ≡ calls.value-word (sample-answers.packing packing) ⌝ }
+{
+    match packing {
+        Packing::Nothing => 0,
+        Packing::Completed(value) => value as u64,
+        Packing::Lost => 0,
+    }
+}
+
+fn put_sampled(image: &mut [u32; 26], answer: &mut [u64; 4], after: Sampled) -> u32
+    ensures { λ r. ⌜ calls.sample-called r (now (image .exit)) (now (answer .exit)) ≡ calls.sample-stored (now (image .entry)) (now (answer .entry)) (answers.reply (after .reply)) (after .device) ⌝ }
+{
+    let reply = after.reply;
+    match reply {
+        Reply::Answered(landing, packing) => {
+            let d = after.device;
+            *image = image_of(d);
+            let landed = landed_word(landing);
+            let byte = byte_word(landing);
+            let packed = packed_word(packing);
+            let value = value_word(packing);
+            *answer = [landed, byte, packed, value];
+            return 0;
+        }
+        Reply::Refused(refusal) => {
+            return refusal.number();
+        }
+    }
+}
+
+// One sample over the memory from the start byte on, with its two answers.
+#[no_mangle]
+pub extern "C" fn dcmi_sample_slices(
+    image: &mut [u32; 26],
+    memory: &mut [u8],
+    start: usize,
+    sample: u32,
+    answer: &mut [u64; 4],
+) -> u32
+    ensures { λ r. ⌜ calls.sample-left (calls.sample-called r (now (image .exit)) (now (answer .exit))) (now (memory .exit)) ≡ calls.sample (now (image .entry)) (now (memory .entry)) start sample (now (answer .entry)) ⌝ }
+{
+    let words = *image;
+    if encodes(words) {
+        let after = device::sample(device_of(words), memory, start, sample);
+        return put_sampled(image, answer, after);
+    }
+    1
+}
+
+fn put_written(outcome: trace::Written, length: &mut usize) -> u32
+    ensures { λ r. ⌜ calls.gave r (now (length .exit)) ≡ calls.got (now (length .entry)) (trace-answers.length outcome) ⌝ }
+{
+    match outcome {
+        trace::Written::Length(n) => {
+            *length = n;
+            return 0;
+        }
+        trace::Written::Refused(refusal) => {
+            return refusal.number();
+        }
+    }
+}
+
+// A trace file into the lent buffer.
+#[no_mangle]
+pub extern "C" fn dcmi_trace_write_slices(
+    count: usize,
+    offsets: &[u8; 255],
+    values: &[u32; 255],
+    samples: &[u32],
+    out: &mut [u8],
+    length: &mut usize,
+) -> u32
+    ensures { λ r. ⌜ calls.encoded (calls.gave r (now (length .exit))) (now (out .exit)) ≡ calls.trace-write (writing.given count (now (offsets .entry)) (now (values .entry))) (now (samples .entry)) (now (out .entry)) (now (length .entry)) ⌝ }
+{
+    let outcome = trace::encode(count, offsets, values, samples, out);
+    put_written(outcome, length)
+}
+
+fn put_read(read: Read, item: &mut [u64; 4]) -> u32
+    ensures { λ r. ⌜ calls.item-called r (now (item .exit)) ≡ calls.item-words (now (item .entry)) (trace-answers.item (read .item)) (read .place) ⌝ }
+{
+    let next = read.place as u64;
+    let found = read.item;
+    match found {
+        Item::Write(w) => {
+            let offset = w.offset as u64;
+            let value = w.value as u64;
+            *item = [1, offset, value, next];
+            return 0;
+        }
+        Item::Sample(w) => {
+            let value = w as u64;
+            *item = [2, 0, value, next];
+            return 0;
+        }
+        Item::End => {
+            *item = [0, 0, 0, next];
+            return 0;
+        }
+        Item::Refused(refusal) => {
+            return refusal.number();
+        }
+    }
+}
+
+// The item at a place of a trace file.
+#[no_mangle]
+pub extern "C" fn dcmi_trace_item_slices(file: &[u8], place: usize, item: &mut [u64; 4]) -> u32
+    ensures { λ r. ⌜ calls.item-called r (now (item .exit)) ≡ calls.trace-item (now (file .entry)) place (now (item .entry)) ⌝ }
+{
+    let read = trace::read_once(file, place);
+    put_read(read, item)
+}

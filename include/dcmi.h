@@ -1,0 +1,174 @@
+/* The camera interface model for C: numbers and bytes, nothing else.
+ *
+ * Every call answers DCMI_OK (0) or a refusal number, for every argument. A refused call leaves the device, the memory and every output as they
+ * were. Nothing is kept between calls: what a call needs stands in its arguments, and the caller owns all of it.
+ *
+ * A pointer must be valid for the length beside it, or for the one object that it points to. Buffers that are passed to one call must not overlap.
+ * A null pointer is allowed where the length beside it is 0, and nowhere else. No call keeps a pointer, allocates, locks or writes elsewhere.
+ *
+ * Link with libdcmi.a (x86-64). Usable from C11 and C++17. */
+#ifndef DCMI_H
+#define DCMI_H
+
+#include <stddef.h>
+#include <stdint.h>
+
+#ifdef __cplusplus
+extern "C" {
+#endif
+
+/* The answer of every call. */
+enum {
+    DCMI_OK = 0,
+    DCMI_MALFORMED = 1,    /* the device is malformed, or its image encodes no device */
+    DCMI_NO_REGISTER = 2,  /* no register at the offset */
+    DCMI_ACCESS = 3,       /* read of ICR, or write of SR, RIS, MIS */
+    DCMI_RESERVED = 4,     /* a reserved bit of the written value is 1 */
+    DCMI_UNSUPPORTED = 5,  /* CR with JPEG 1, ESS 1, FCRC 3, or CAPTURE 1 and ENABLE 0 */
+    DCMI_ENABLED = 6,      /* ENABLE is 1, and the write would change the set-up */
+    DCMI_SAMPLE_BITS = 7,  /* a sample has a bit above 17 */
+    DCMI_SAMPLES = 8,      /* samples in all would pass 4,294,967,295 */
+    DCMI_START = 9,        /* start byte above the memory length */
+    DCMI_MARK = 10,        /* the file's mark is not FGT */
+    DCMI_VERSION = 11,     /* the file's version is not 1 */
+    DCMI_COUNT = 12,       /* sample count above 16,384 */
+    DCMI_LENGTH = 13,      /* fewer than 8 bytes, or length not as the header says */
+    DCMI_WRITES = 14,      /* more than 255 writes given to the writer */
+    DCMI_ROOM = 15         /* the writer's output does not fit */
+};
+
+/* Register offsets. */
+enum {
+    DCMI_CR = 0x00, DCMI_SR = 0x04, DCMI_RIS = 0x08, DCMI_IER = 0x0C, DCMI_MIS = 0x10, DCMI_ICR = 0x14, DCMI_CWSTRT = 0x20, DCMI_CWSIZE = 0x24
+};
+
+/* A device: an image of 32-bit words that the caller owns, copies and stores as it likes. `dcmi_reset` makes a fresh one. A word that is 0 or 1
+ * says no or yes; an image with another value there, a frame above 2, or lines or pixels in a closed frame encodes no device: every call refuses
+ * it with DCMI_MALFORMED, as it does a device that breaks one of the rules for well-formed devices. */
+enum {
+    DCMI_WORDS = 26,
+    DCMI_W_CR = 0,             /* registers */
+    DCMI_W_RIS = 1,
+    DCMI_W_IER = 2,
+    DCMI_W_CWSTRT = 3,
+    DCMI_W_CWSIZE = 4,
+    DCMI_W_HSYNC = 5,          /* levels of the pins at the last sample: 0 or 1 */
+    DCMI_W_VSYNC = 6,
+    DCMI_W_CLOCK = 7,
+    DCMI_W_HSYNC_BLANKED = 8,  /* whether each sync blanked at the last working edge: 0 or 1 */
+    DCMI_W_VSYNC_BLANKED = 9,
+    DCMI_W_FRAME = 10,         /* 0 closed, 1 open and not taken, 2 open and taken */
+    DCMI_W_LINES = 11,         /* lines begun in the open frame, pixels of the last line; both 0 in a closed one */
+    DCMI_W_PIXELS = 12,
+    DCMI_W_RATE = 13,          /* the rate counter */
+    DCMI_W_PARTIAL_COUNT = 14, /* the partial word: how many data, and their bits */
+    DCMI_W_PARTIAL_BITS = 15,
+    DCMI_W_SLOT = 16,          /* four FIFO slots, 16 to 19: the held words, oldest first, then zeros */
+    DCMI_W_HELD = 20,          /* how many words are held */
+    DCMI_W_PLACE = 21,         /* the number of the next word to land */
+    DCMI_W_SAMPLES = 22,       /* counts since reset */
+    DCMI_W_COMPLETED = 23,
+    DCMI_W_LANDED = 24,
+    DCMI_W_DISCARDED = 25
+};
+
+typedef struct dcmi_device {
+    uint32_t word[DCMI_WORDS];
+} dcmi_device;
+
+/* The two answers of one sample: where a word landed, and what became of the word that the sample completed. */
+enum { DCMI_NOTHING = 0, DCMI_COMPLETED = 1, DCMI_LOST = 2 };
+
+typedef struct dcmi_answer {
+    uint64_t landed; /* 1 if a word landed in memory, else 0 */
+    uint64_t byte;   /* the byte of the memory at which it landed; 0 if none did */
+    uint64_t packed; /* DCMI_NOTHING, DCMI_COMPLETED or DCMI_LOST */
+    uint64_t value;  /* the completed word; 0 if none was, or it was lost */
+} dcmi_answer;
+
+/* One item of a trace file. */
+enum { DCMI_END = 0, DCMI_WRITE = 1, DCMI_SAMPLE = 2 };
+
+typedef struct dcmi_item {
+    uint64_t kind;   /* DCMI_END, DCMI_WRITE or DCMI_SAMPLE */
+    uint64_t offset; /* a write's offset; else 0 */
+    uint64_t value;  /* a write's value, or a sample; 0 at the end */
+    uint64_t next;   /* the place after the item; at the end it stays */
+} dcmi_item;
+
+/* The register writes of a trace file that is to be written: as many as count says, first at index 0. */
+typedef struct dcmi_writes {
+    size_t count;
+    uint8_t offset[255];
+    uint32_t value[255];
+} dcmi_writes;
+
+/* A fresh device. Never refused, whatever the image held. */
+uint32_t dcmi_reset(dcmi_device *device);
+
+/* A register write. Refusals 1, 2, 3, 4, 5, 6 in order. */
+uint32_t dcmi_write(dcmi_device *device, uint32_t offset, uint32_t value);
+
+/* A register read into *value. Refusals 1, 2, 3 in order. */
+uint32_t dcmi_read(const dcmi_device *device, uint32_t offset, uint32_t *value);
+
+/* The interrupt line into *line: 1 up, 0 down. Refusal 1. */
+uint32_t dcmi_interrupt(const dcmi_device *device, uint32_t *line);
+
+/* The place of the next word becomes 0. Refusal 1. */
+uint32_t dcmi_rearm(dcmi_device *device);
+
+/* What the static library exports for the calls below, which pass a slice as a pointer that is not null and a length. Call those. */
+uint32_t dcmi_sample_slices(dcmi_device *device, uint8_t *memory, size_t length, size_t start, uint32_t sample, dcmi_answer *answer);
+uint32_t dcmi_run_slices(dcmi_device *device, uint8_t *memory, size_t length, size_t start, const uint32_t *samples, size_t count);
+uint32_t dcmi_run_file_slices(dcmi_device *device, const uint8_t *file, size_t file_length, uint8_t *memory, size_t length, size_t start);
+uint32_t dcmi_trace_write_slices(size_t count, const uint8_t *offsets, const uint32_t *values, const uint32_t *samples, size_t samples_count,
+                                 uint8_t *out, size_t length, size_t *written);
+uint32_t dcmi_trace_item_slices(const uint8_t *file, size_t length, size_t place, dcmi_item *item);
+
+/* One sample over the memory from the start byte on, its two answers into *answer. Refusals 1, 9, 7, 8 in order. */
+static inline uint32_t dcmi_sample(dcmi_device *device, uint8_t *memory, size_t length, size_t start, uint32_t sample, dcmi_answer *answer)
+{
+    uint8_t none = 0;
+    return dcmi_sample_slices(device, length ? memory : &none, length, start, sample, answer);
+}
+
+/* A run of samples over the memory from the start byte on. Refusals 1, 9, 7, 8 in order. */
+static inline uint32_t dcmi_run(dcmi_device *device, uint8_t *memory, size_t length, size_t start, const uint32_t *samples, size_t count)
+{
+    uint8_t none = 0;
+    uint32_t nothing = 0;
+    return dcmi_run_slices(device, length ? memory : &none, length, start, count ? samples : &nothing, count);
+}
+
+/* A trace file on a fresh device: its writes, then its samples as one run. *device is written only, and becomes the device after the file.
+ * Refusals 13, 10, 11, 12, 13, the first refused write's number, 9, 7, 8 in order. */
+static inline uint32_t dcmi_run_file(dcmi_device *device, const uint8_t *file, size_t file_length, uint8_t *memory, size_t length, size_t start)
+{
+    uint8_t none = 0;
+    uint8_t nothing = 0;
+    return dcmi_run_file_slices(device, file_length ? file : &nothing, file_length, length ? memory : &none, length, start);
+}
+
+/* A trace file of some writes and samples into the lent buffer; its length into *written. Bytes of the buffer after it stay.
+ * Refusals 14, 12, 7, 15 in order. */
+static inline uint32_t dcmi_trace_write(const dcmi_writes *writes, const uint32_t *samples, size_t count, uint8_t *out, size_t length, size_t *written)
+{
+    uint8_t none = 0;
+    uint32_t nothing = 0;
+    return dcmi_trace_write_slices(writes->count, writes->offset, writes->value, count ? samples : &nothing, count, length ? out : &none, length, written);
+}
+
+/* The item at a place of a trace file, places numbered from 0: first the writes, then the samples; every further place is the end.
+ * Refusals 13, 10, 11, 12, 13 in order, then 7 at a sample. */
+static inline uint32_t dcmi_trace_item(const uint8_t *file, size_t length, size_t place, dcmi_item *item)
+{
+    uint8_t none = 0;
+    return dcmi_trace_item_slices(length ? file : &none, length, place, item);
+}
+
+#ifdef __cplusplus
+}
+#endif
+
+#endif

@@ -1,0 +1,800 @@
+#define _DEFAULT_SOURCE
+#include "checked.h"
+
+#include <inttypes.h>
+#include <signal.h>
+#include <stdio.h>
+#include <stdlib.h>
+#include <string.h>
+#include <sys/mman.h>
+#include <unistd.h>
+
+#include "branches.h"
+#include "guard.h"
+#include "inputs.h"
+#include "model.h"
+
+enum call { RESET, WRITE, READ, INTERRUPT, REARM, SAMPLE, RUN, RUN_FILE, TRACE_WRITE, TRACE_ITEM, CALLS };
+
+static const char *const call_name[CALLS] = {
+    "dcmi_reset", "dcmi_write", "dcmi_read", "dcmi_interrupt", "dcmi_rearm", "dcmi_sample", "dcmi_run", "dcmi_run_file", "dcmi_trace_write",
+    "dcmi_trace_item",
+};
+
+static const char *const word_name[DCMI_WORDS] = {
+    "CR", "RIS", "IER", "CWSTRT", "CWSIZE", "HSYNC", "VSYNC", "CLOCK", "HSYNC_BLANKED", "VSYNC_BLANKED", "FRAME", "LINES", "PIXELS", "RATE",
+    "PARTIAL_COUNT", "PARTIAL_BITS", "SLOT 0", "SLOT 1", "SLOT 2", "SLOT 3", "HELD", "PLACE", "SAMPLES", "COMPLETED", "LANDED", "DISCARDED",
+};
+
+/* The call that is being made. */
+static struct call_made {
+    enum call call;
+    uint64_t number;             /* counted from 1 in each seed */
+    uint32_t offset, value;      /* of a register; the value is a sample too */
+    size_t start, place;
+    const uint32_t *samples;
+    const uint8_t *file;
+    const dcmi_writes *writes;
+    size_t count, length;        /* of the samples; of the file or the writer's buffer */
+    uint32_t before[DCMI_WORDS]; /* the device */
+} now;
+
+static uint64_t seed, limit;
+static lending how;
+static unsigned differences;
+
+/* What the model holds. */
+static uint32_t want_device[DCMI_WORDS];
+static uint8_t *want_memory, own_memory[MOST_MEMORY];
+static uint8_t *lent_memory;
+static size_t length_of_memory;
+static bool memory_is_far;
+
+/* What the library is lent. */
+static guarded g_device, g_memory, g_samples, g_file, g_out, g_output, g_writes, g_offsets, g_values;
+
+/* Counts of the whole program. */
+static uint64_t answers[CALLS][16];
+static uint64_t together[CALLS][8][8]; /* calls with two reasons for a refusal at once */
+static uint64_t samples_compared;
+static bool far_missing;
+
+/* ---- reports ---- */
+
+static void print_words(const uint32_t *words, size_t count)
+{
+    const size_t shown = count > 64 ? 64 : count;
+    for (size_t i = 0; i < shown; i++) printf("%s%05" PRIX32, i % 16 ? " " : "\n    ", words[i]);
+    printf(count > shown ? "\n    and so on\n" : "\n");
+}
+
+static void print_bytes(const uint8_t *bytes, size_t count)
+{
+    const size_t shown = count > 128 ? 128 : count;
+    for (size_t i = 0; i < shown; i++) printf("%s%02X", i % 32 ? " " : "\n    ", bytes[i]);
+    printf(count > shown ? "\n    and so on\n" : "\n");
+}
+
+static void print_call(void)
+{
+    printf("seed %" PRIu64 ", call %" PRIu64 ": %s", seed, now.number, call_name[now.call]);
+    switch (now.call) {
+    case WRITE: printf(", offset 0x%" PRIX32 ", value 0x%" PRIX32, now.offset, now.value); break;
+    case READ: printf(", offset 0x%" PRIX32, now.offset); break;
+    case SAMPLE: printf(", memory of %zu bytes, start %zu, sample 0x%05" PRIX32, length_of_memory, now.start, now.value); break;
+    case RUN: printf(", memory of %zu bytes, start %zu, %zu samples", length_of_memory, now.start, now.count); break;
+    case RUN_FILE: printf(", file of %zu bytes, memory of %zu bytes, start %zu", now.length, length_of_memory, now.start); break;
+    case TRACE_WRITE: printf(", %zu writes, %zu samples, buffer of %zu bytes", now.writes->count, now.count, now.length); break;
+    case TRACE_ITEM: printf(", file of %zu bytes, place %zu", now.length, now.place); break;
+    default: break;
+    }
+    printf("\n");
+}
+
+/* Also the data of the call; not for the signal handler. */
+static void print_inputs(void)
+{
+    if (now.samples && now.count) {
+        printf("  samples");
+        print_words(now.samples, now.count);
+    }
+    if (now.file && now.length) {
+        printf("  file");
+        print_bytes(now.file, now.length);
+    }
+    if (now.call > RUN_FILE) return;
+    printf("  device before, words that are not 0:\n");
+    for (unsigned i = 0; i < DCMI_WORDS; i++)
+        if (now.before[i]) printf("    %-14s 0x%08" PRIX32 "\n", word_name[i], now.before[i]);
+}
+
+static void print_command(void) { printf("run alone: compare %" PRIu64 "\n", seed); }
+
+/* Called before each difference is described. */
+static void difference(void)
+{
+    if (differences++ == 0) {
+        print_call();
+        print_inputs();
+    }
+}
+
+static void stop_if_different(void)
+{
+    if (!differences) return;
+    print_command();
+    exit(1);
+}
+
+void differs(const char *what)
+{
+    difference();
+    printf("  %s\n", what);
+    stop_if_different();
+}
+
+/* The process is lost when this runs, so it may print as it likes. */
+static void on_signal(int number)
+{
+    const char *name = number == SIGALRM ? "no answer" : number == SIGSEGV || number == SIGBUS ? "access outside the lent buffers" : "died";
+    printf("%s (signal %d)\n", name, number);
+    print_call();
+    print_command();
+    fflush(stdout);
+    _exit(1);
+}
+
+static void catch_signals(void)
+{
+    static uint8_t stack[1 << 16];
+    const stack_t other = { .ss_sp = stack, .ss_size = sizeof stack };
+    const struct sigaction action = { .sa_handler = on_signal, .sa_flags = SA_ONSTACK };
+    static const int caught[] = { SIGSEGV, SIGBUS, SIGILL, SIGFPE, SIGABRT, SIGALRM };
+    sigaltstack(&other, NULL);
+    for (size_t i = 0; i < sizeof caught / sizeof *caught; i++) sigaction(caught[i], &action, NULL);
+}
+
+/* ---- the two sides ---- */
+
+void checked_start(void)
+{
+    catch_signals();
+    guard_make(&g_device, sizeof(dcmi_device));
+    guard_make(&g_memory, MOST_MEMORY);
+    guard_make(&g_samples, 4 * MOST_SAMPLES);
+    guard_make(&g_file, MOST_FILE);
+    guard_make(&g_out, MOST_MEMORY);
+    guard_make(&g_output, 64);
+    guard_make(&g_writes, sizeof(dcmi_writes));
+    guard_make(&g_offsets, 255);
+    guard_make(&g_values, 4 * 255);
+}
+
+void checked_seed(uint64_t number, lending lent, uint64_t calls)
+{
+    seed = number;
+    how = lent;
+    limit = calls;
+    now = (struct call_made){ 0 };
+    memset(want_device, 0, sizeof want_device);
+    guard_lend(&g_device, sizeof(dcmi_device), how.at_end);
+    memset(g_device.at, 0, sizeof(dcmi_device));
+    lend_memory(0);
+    alarm(120);
+}
+
+bool more(void) { return now.number < limit; }
+
+const uint32_t *device(void) { return want_device; }
+
+void set_device(const uint32_t *image)
+{
+    memcpy(want_device, image, sizeof want_device);
+    memcpy(g_device.at, image, sizeof want_device);
+}
+
+void lend_memory(size_t length)
+{
+    memory_is_far = false;
+    length_of_memory = length;
+    want_memory = own_memory;
+    lent_memory = guard_lend(&g_memory, length, how.at_end);
+    random_bytes(want_memory, length);
+    memcpy(lent_memory, want_memory, length);
+}
+
+size_t memory_length(void) { return length_of_memory; }
+const uint8_t *memory_bytes(void) { return want_memory; }
+
+/* The two far memories, one for each side. */
+static uint8_t *far_lent, *far_want;
+static const size_t far_size = ((size_t)1 << 34) + (1 << 16);
+
+uint8_t *far_memory(void)
+{
+    static bool tried;
+    if (tried) return far_lent;
+    tried = true;
+    const int flags = MAP_PRIVATE | MAP_ANONYMOUS | MAP_NORESERVE;
+    uint8_t *one = mmap(NULL, far_size, PROT_READ | PROT_WRITE, flags, -1, 0);
+    uint8_t *two = mmap(NULL, far_size, PROT_READ | PROT_WRITE, flags, -1, 0);
+    far_missing = one == MAP_FAILED || two == MAP_FAILED;
+    if (far_missing) return NULL;
+    far_lent = one;
+    far_want = two;
+    return far_lent;
+}
+
+bool lend_far_memory(size_t length)
+{
+    if (!far_memory()) return false;
+    madvise(far_lent, far_size, MADV_DONTNEED);
+    madvise(far_want, far_size, MADV_DONTNEED);
+    memory_is_far = true;
+    length_of_memory = length;
+    lent_memory = far_lent;
+    want_memory = far_want;
+    return true;
+}
+
+/* ---- comparing ---- */
+
+static void compare_bytes(const char *what, const uint8_t *want, const uint8_t *got, size_t count)
+{
+    if (memcmp(want, got, count) == 0) return;
+    difference();
+    unsigned shown = 0;
+    for (size_t i = 0; i < count && shown < 16; i++)
+        if (want[i] != got[i] && ++shown) printf("  %s, byte %zu: the model has %02X, the library %02X\n", what, i, want[i], got[i]);
+}
+
+static void compare_device(void)
+{
+    const uint32_t *got = g_device.at;
+    if (memcmp(want_device, got, sizeof want_device) == 0) return;
+    difference();
+    for (unsigned i = 0; i < DCMI_WORDS; i++) {
+        if (want_device[i] == got[i]) continue;
+        printf("  device word %u, %s: the model has 0x%08" PRIX32 ", the library 0x%08" PRIX32 "\n", i, word_name[i], want_device[i], got[i]);
+    }
+}
+
+/* A part of the far memory around a byte. */
+static void compare_around(uint64_t byte)
+{
+    const size_t from = byte > 4096 ? byte - 4096 : 0;
+    if (from >= length_of_memory) return;
+    const size_t count = length_of_memory - from < 8192 ? length_of_memory - from : 8192;
+    char what[64];
+    snprintf(what, sizeof what, "memory from %zu on", from);
+    compare_bytes(what, want_memory + from, lent_memory + from, count);
+}
+
+static void compare_memory(void)
+{
+    if (!memory_is_far) {
+        compare_bytes("memory", want_memory, lent_memory, length_of_memory);
+        return;
+    }
+    const uint64_t landing = now.start + 4 * (uint64_t)now.before[DCMI_W_PLACE];
+    compare_around(0);
+    compare_around(landing);
+    compare_around((uint32_t)landing);
+    compare_around(length_of_memory);
+}
+
+static void compare_beside(const char *what, const guarded *g)
+{
+    if (guard_intact(g)) return;
+    difference();
+    printf("  bytes beside the lent %s changed\n", what);
+}
+
+/* ---- one call ---- */
+
+static void begin(enum call call)
+{
+    now = (struct call_made){ .call = call, .number = now.number + 1 };
+    memcpy(now.before, want_device, sizeof want_device);
+}
+
+static uint32_t finish(uint32_t want, uint32_t got)
+{
+    if (want != got) {
+        difference();
+        printf("  the model answers %" PRIu32 ", the library %" PRIu32 "\n", want, got);
+    }
+    compare_device();
+    compare_memory();
+    compare_beside("device", &g_device);
+    compare_beside("memory", &g_memory);
+    stop_if_different();
+    answers[now.call][want]++;
+    return want;
+}
+
+/* Half of the calls go to the library's own functions, so that an empty buffer too is one of ours; in the rest it is a null pointer. */
+static bool direct(void) { return now.number & 1; }
+
+static void *or_null(void *at, size_t length) { return length ? at : NULL; }
+
+/* A const buffer for the library: lent, and taken back. */
+static void *lend(guarded *g, const void *bytes, size_t count)
+{
+    guard_lend(g, count, how.at_end);
+    if (count) memcpy(g->at, bytes, count);
+    if (how.read_only) guard_lock(g);
+    return g->at;
+}
+
+static void take_back(const char *what, const guarded *g, const void *bytes, size_t count)
+{
+    if (how.read_only) guard_unlock(g);
+    if (count) compare_bytes(what, bytes, g->at, count);
+    compare_beside(what, g);
+}
+
+/* An output: both sides begin with the same bytes, which a refusal must leave. */
+static void *lend_output(guarded *g, void *want, size_t count)
+{
+    const int filling = 0xC0 | (int)(now.number & 0x3F);
+    guard_lend(g, count, how.at_end);
+    memset(g->at, filling, count);
+    memset(want, filling, count);
+    return g->at;
+}
+
+static void compare_output(const char *what, const guarded *g, const void *want, size_t count)
+{
+    compare_bytes(what, want, g->at, count);
+    compare_beside(what, g);
+}
+
+/* An output of 64-bit numbers. */
+static void compare_fields(const char *const *name, const uint64_t *want, unsigned count)
+{
+    const uint64_t *got = g_output.at;
+    for (unsigned i = 0; i < count; i++) {
+        if (want[i] == got[i]) continue;
+        difference();
+        printf("  output %s: the model has 0x%" PRIX64 ", the library 0x%" PRIX64 "\n", name[i], want[i], got[i]);
+    }
+    compare_beside("output", &g_output);
+}
+
+/* ---- the order of refusals ---- */
+
+/* The reasons for a refusal of each call, in the paper's order; 0 stands for the number of a refused write. */
+static const struct {
+    unsigned count;
+    uint8_t number[8];
+    uint8_t never[8]; /* bit j of entry i: reasons i and j cannot stand together */
+} order[CALLS] = {
+    [WRITE] = { 6, { 1, 2, 3, 4, 5, 6 }, { 0, 0x3C, 0x30 } },
+    [READ] = { 3, { 1, 2, 3 }, { 0, 0x4 } },
+    [SAMPLE] = { 4, { 1, 9, 7, 8 }, { 0 } },
+    [RUN] = { 4, { 1, 9, 7, 8 }, { 0 } },
+    [RUN_FILE] = { 8, { 13, 10, 11, 12, 13, 0, 9, 7 }, { 0xB8, 0x20, 0x20, 0x20, 0xA0 } },
+    [TRACE_WRITE] = { 4, { 14, 12, 7, 15 }, { 0 } },
+    [TRACE_ITEM] = { 6, { 13, 10, 11, 12, 13, 7 }, { 0x38, 0, 0, 0, 0x20 } },
+};
+
+/* Counts the pairs of reasons that hold at once (bit i: reason i), and sees that the model answered the first. */
+static void note_reasons(unsigned reasons, uint32_t answer)
+{
+    unsigned first = 0;
+    while (first < order[now.call].count && !(reasons >> first & 1)) first++;
+    const bool right = first == order[now.call].count ? answer == 0
+                       : order[now.call].number[first] ? answer == order[now.call].number[first]
+                                                       : answer >= 2 && answer <= 6;
+    if (!right) differs("the model's answer is not the first reason in the paper's order");
+    for (unsigned i = first; i < order[now.call].count; i++)
+        for (unsigned j = i + 1; j < order[now.call].count; j++)
+            if ((reasons >> i & 1) && (reasons >> j & 1)) together[now.call][i][j]++;
+}
+
+static unsigned reason(bool holds, unsigned at) { return (unsigned)holds << at; }
+
+static unsigned write_reasons(uint32_t answer)
+{
+    const uint32_t offset = now.offset, value = now.value, cr = now.before[DCMI_W_CR];
+    const bool read_only = offset == DCMI_SR || offset == DCMI_RIS || offset == DCMI_MIS;
+    const bool window = offset == DCMI_CWSTRT || offset == DCMI_CWSIZE;
+    const bool other = offset == DCMI_CR || offset == DCMI_IER || offset == DCMI_ICR;
+    const uint32_t bits = offset == DCMI_CR ? 0x4FFF : offset == DCMI_CWSTRT ? 0x1FFF3FFF : offset == DCMI_CWSIZE ? 0x3FFF3FFF : 0x1F;
+    const bool five = (value & 0x18) || (value & 0x300) == 0x300 || (value & 0x4001) == 1;
+    const bool change = (value ^ cr) & ~UINT32_C(0x4001);
+    return reason(answer == 1, 0)
+         | reason(!read_only && !window && !other, 1)
+         | reason(read_only, 2)
+         | reason((read_only || window || other) && (value & ~bits), 3)
+         | reason(offset == DCMI_CR && five, 4)
+         | reason((cr & 0x4000) && (window || (offset == DCMI_CR && change)), 5);
+}
+
+static unsigned read_reasons(uint32_t answer)
+{
+    const bool known = now.offset % 4 == 0 && now.offset <= 0x24 && now.offset != 0x18 && now.offset != 0x1C;
+    return reason(answer == 1, 0) | reason(!known, 1) | reason(now.offset == DCMI_ICR, 2);
+}
+
+static bool has_bad(const uint32_t *samples, size_t count)
+{
+    uint32_t all = 0;
+    for (size_t i = 0; i < count; i++) all |= samples[i];
+    return all >> 18;
+}
+
+static unsigned run_reasons(uint32_t answer, const uint32_t *samples, size_t count)
+{
+    return reason(answer == 1, 0)
+         | reason(now.start > length_of_memory, 1)
+         | reason(has_bad(samples, count), 2)
+         | reason(now.before[DCMI_W_SAMPLES] + (uint64_t)count > UINT32_MAX, 3);
+}
+
+/* The first five reasons of a file; *body is where its samples begin if its length is as it says, else 0. */
+static unsigned header_reasons(const uint8_t *file, size_t length, size_t *body, size_t *count)
+{
+    *body = 0;
+    *count = length >= 8 ? file[6] + 256u * file[7] : 0;
+    const size_t samples_at = length >= 8 ? 8 + 5u * file[5] : 0;
+    const bool as_said = length >= 8 && length == samples_at + 3 * *count;
+    if (as_said) *body = samples_at;
+    return reason(length < 8, 0)
+         | reason(length >= 3 && memcmp(file, "FGT", 3) != 0, 1)
+         | reason(length >= 5 && (file[3] != 1 || file[4] != 0), 2)
+         | reason(*count > 16384, 3)
+         | reason(length >= 8 && !as_said, 4);
+}
+
+static bool bad_at(const uint8_t *file, size_t body, size_t i) { return file[body + 3 * i + 2] > 3; }
+
+static unsigned file_reasons(uint32_t answer)
+{
+    size_t body, count;
+    bool bad = false;
+    const unsigned header = header_reasons(now.file, now.length, &body, &count);
+    for (size_t i = 0; body && i < count && !bad; i++) bad = bad_at(now.file, body, i);
+    return header | reason(answer >= 2 && answer <= 6, 5) | reason(now.start > length_of_memory, 6) | reason(bad, 7);
+}
+
+static unsigned item_reasons(void)
+{
+    size_t body, count;
+    const unsigned header = header_reasons(now.file, now.length, &body, &count);
+    const size_t writes = body ? now.file[5] : 0;
+    return header | reason(body && now.place >= writes && now.place - writes < count && bad_at(now.file, body, now.place - writes), 5);
+}
+
+static unsigned writer_reasons(void)
+{
+    const bool many = now.count > MOST_SAMPLES || now.writes->count > MOST_FILE;
+    return reason(now.writes->count > 255, 0)
+         | reason(now.count > 16384, 1)
+         | reason(now.count <= MOST_SAMPLES && has_bad(now.samples, now.count), 2)
+         | reason(many || 8 + 5 * now.writes->count + 3 * now.count > now.length, 3);
+}
+
+/* ---- the calls ---- */
+
+uint32_t check_reset(void)
+{
+    begin(RESET);
+    camera c;
+    model_reset(&c);
+    model_to_image(&c, want_device);
+    return finish(0, dcmi_reset(g_device.at));
+}
+
+uint32_t check_write(uint32_t offset, uint32_t value)
+{
+    begin(WRITE);
+    now.offset = offset;
+    now.value = value;
+    camera c;
+    uint32_t want = 1;
+    if (model_from_image(&c, want_device)) {
+        want = model_write(&c, offset, value);
+        model_to_image(&c, want_device);
+    }
+    note_reasons(write_reasons(want), want);
+    return finish(want, dcmi_write(g_device.at, offset, value));
+}
+
+uint32_t check_read(uint32_t offset, uint32_t *value)
+{
+    begin(READ);
+    now.offset = offset;
+    camera c;
+    uint32_t want = 1, want_value;
+    uint32_t *lent = lend_output(&g_output, &want_value, sizeof want_value);
+    if (model_from_image(&c, want_device)) want = model_read(&c, offset, &want_value);
+    note_reasons(read_reasons(want), want);
+    if (how.read_only) guard_lock(&g_device);
+    const uint32_t got = dcmi_read(g_device.at, offset, lent);
+    if (how.read_only) guard_unlock(&g_device);
+    compare_output("output value", &g_output, &want_value, sizeof want_value);
+    if (value && !want) *value = want_value;
+    return finish(want, got);
+}
+
+uint32_t check_interrupt(void)
+{
+    begin(INTERRUPT);
+    camera c;
+    bool up = false;
+    uint32_t want = 1, want_line;
+    uint32_t *lent = lend_output(&g_output, &want_line, sizeof want_line);
+    if (model_from_image(&c, want_device)) want = model_interrupt(&c, &up);
+    if (!want) want_line = up;
+    if (how.read_only) guard_lock(&g_device);
+    const uint32_t got = dcmi_interrupt(g_device.at, lent);
+    if (how.read_only) guard_unlock(&g_device);
+    compare_output("output line", &g_output, &want_line, sizeof want_line);
+    return finish(want, got);
+}
+
+uint32_t check_rearm(void)
+{
+    begin(REARM);
+    camera c;
+    uint32_t want = 1;
+    if (model_from_image(&c, want_device)) {
+        want = model_rearm(&c);
+        model_to_image(&c, want_device);
+    }
+    return finish(want, dcmi_rearm(g_device.at));
+}
+
+uint32_t check_sample(size_t start, uint32_t sample, dcmi_answer *answer)
+{
+    static const char *const name[] = { "landed", "byte", "packed", "value" };
+    begin(SAMPLE);
+    now.start = start;
+    now.value = sample;
+    camera c;
+    outcome out;
+    uint32_t want = 1;
+    uint64_t want_answer[4];
+    dcmi_answer *lent = lend_output(&g_output, want_answer, sizeof want_answer);
+    if (model_from_image(&c, want_device)) {
+        want = model_sample(&c, want_memory, length_of_memory, start, sample, &out);
+        model_to_image(&c, want_device);
+    }
+    note_reasons(run_reasons(want, &sample, 1), want);
+    if (!want) {
+        want_answer[0] = out.landed;
+        want_answer[1] = out.byte;
+        want_answer[2] = out.packed == PACKED_WORD ? DCMI_COMPLETED : out.packed == PACKED_LOST ? DCMI_LOST : DCMI_NOTHING;
+        want_answer[3] = out.word;
+        samples_compared++;
+    }
+    const uint32_t got = direct() ? dcmi_sample_slices(g_device.at, lent_memory, length_of_memory, start, sample, lent)
+                                  : dcmi_sample(g_device.at, or_null(lent_memory, length_of_memory), length_of_memory, start, sample, lent);
+    compare_fields(name, want_answer, 4);
+    if (answer && !want) memcpy(answer, g_output.at, sizeof *answer);
+    return finish(want, got);
+}
+
+uint32_t check_run(size_t start, const uint32_t *samples, size_t count)
+{
+    begin(RUN);
+    now.start = start;
+    now.samples = samples;
+    now.count = count;
+    camera c;
+    uint32_t want = 1;
+    if (model_from_image(&c, want_device)) {
+        want = model_run(&c, want_memory, length_of_memory, start, samples, count);
+        model_to_image(&c, want_device);
+    }
+    note_reasons(run_reasons(want, samples, count), want);
+    if (!want) samples_compared += count;
+    uint32_t *lent = lend(&g_samples, samples, 4 * count);
+    const uint32_t got = direct() ? dcmi_run_slices(g_device.at, lent_memory, length_of_memory, start, lent, count)
+                                  : dcmi_run(g_device.at, or_null(lent_memory, length_of_memory), length_of_memory, start, or_null(lent, count), count);
+    take_back("samples", &g_samples, samples, 4 * count);
+    return finish(want, got);
+}
+
+uint32_t check_run_file(const uint8_t *file, size_t file_length, size_t start)
+{
+    begin(RUN_FILE);
+    now.file = file;
+    now.length = file_length;
+    now.start = start;
+    camera c;
+    const bool own = file_length <= MOST_FILE;
+    const uint32_t want = model_run_file(&c, file, file_length, want_memory, length_of_memory, start);
+    if (!want) {
+        model_to_image(&c, want_device);
+        samples_compared += c.samples;
+    }
+    note_reasons(file_reasons(want), want);
+    uint8_t *lent = own ? lend(&g_file, file, file_length) : (uint8_t *)file;
+    uint8_t *memory = lent_memory;
+    const size_t length = length_of_memory;
+    const uint32_t got = direct() ? dcmi_run_file_slices(g_device.at, lent, file_length, memory, length, start)
+                                  : dcmi_run_file(g_device.at, or_null(lent, file_length), file_length, or_null(memory, length), length, start);
+    if (own) take_back("file", &g_file, file, file_length);
+    return finish(want, got);
+}
+
+static uint8_t want_out[MOST_MEMORY];
+static const uint8_t *last_file;
+static size_t last_length;
+
+const uint8_t *written_file(size_t *length)
+{
+    *length = last_length;
+    return last_file;
+}
+
+/* The writer: through the struct, or with its two arrays apart. */
+static uint32_t call_writer(uint32_t *samples, uint8_t *out, size_t *written)
+{
+    const dcmi_writes *w = now.writes;
+    uint32_t got;
+    if (direct()) {
+        uint8_t *offsets = lend(&g_offsets, w->offset, sizeof w->offset);
+        uint32_t *values = lend(&g_values, w->value, sizeof w->value);
+        got = dcmi_trace_write_slices(w->count, offsets, values, samples, now.count, out, now.length, written);
+        take_back("offsets", &g_offsets, w->offset, sizeof w->offset);
+        take_back("values", &g_values, w->value, sizeof w->value);
+    } else {
+        dcmi_writes *writes = lend(&g_writes, w, sizeof *w);
+        got = dcmi_trace_write(writes, or_null(samples, now.count), now.count, or_null(out, now.length), now.length, written);
+        take_back("writes", &g_writes, w, sizeof *w);
+    }
+    return got;
+}
+
+uint32_t check_trace_write(const dcmi_writes *writes, const uint32_t *samples, size_t count, size_t length)
+{
+    begin(TRACE_WRITE);
+    now.writes = writes;
+    now.samples = samples;
+    now.count = count;
+    now.length = length;
+    const bool far_samples = count > MOST_SAMPLES, far_out = length > MOST_MEMORY;
+    const size_t compared = far_out ? 8192 : length;
+    size_t want_written;
+    size_t *written = lend_output(&g_output, &want_written, sizeof want_written);
+    uint8_t *model_out = far_out ? want_memory : want_out;
+    uint8_t *out = far_out ? lent_memory : lend_output(&g_out, want_out, length);
+    const uint32_t want = model_trace_write(writes->count, writes->offset, writes->value, samples, count, model_out, length, &want_written);
+    note_reasons(writer_reasons(), want);
+    uint32_t *lent = far_samples ? (uint32_t *)samples : lend(&g_samples, samples, 4 * count);
+    const uint32_t got = call_writer(lent, out, written);
+    if (!far_samples) take_back("samples", &g_samples, samples, 4 * count);
+    compare_bytes("output buffer", model_out, out, compared);
+    if (!far_out) compare_beside("output buffer", &g_out);
+    compare_output("output written", &g_output, &want_written, sizeof want_written);
+    if (!want) {
+        last_file = model_out;
+        last_length = want_written;
+    }
+    return finish(want, got);
+}
+
+uint32_t check_trace_item(const uint8_t *file, size_t length, size_t place, dcmi_item *item)
+{
+    static const char *const name[] = { "kind", "offset", "value", "next" };
+    begin(TRACE_ITEM);
+    now.file = file;
+    now.length = length;
+    now.place = place;
+    const bool own = length <= MOST_FILE;
+    trace_item found;
+    uint64_t want_item[4];
+    dcmi_item *lent_item = lend_output(&g_output, want_item, sizeof want_item);
+    const uint32_t want = model_trace_item(file, length, place, &found);
+    note_reasons(item_reasons(), want);
+    if (!want) {
+        want_item[0] = found.kind == ITEM_WRITE ? DCMI_WRITE : found.kind == ITEM_SAMPLE ? DCMI_SAMPLE : DCMI_END;
+        want_item[1] = found.offset;
+        want_item[2] = found.value;
+        want_item[3] = found.next;
+    }
+    uint8_t *lent = own ? lend(&g_file, file, length) : (uint8_t *)file;
+    const uint32_t got = direct() ? dcmi_trace_item_slices(lent, length, place, lent_item)
+                                  : dcmi_trace_item(or_null(lent, length), length, place, lent_item);
+    if (own) take_back("file", &g_file, file, length);
+    compare_fields(name, want_item, 4);
+    if (item && !want) memcpy(item, g_output.at, sizeof *item);
+    return finish(want, got);
+}
+
+/* ---- the summary ---- */
+
+/* The answers that each call must have given, bit by number. */
+static const uint16_t expected[CALLS] = {
+    [RESET] = 1 << 0,
+    [WRITE] = 1 << 0 | 1 << 1 | 1 << 2 | 1 << 3 | 1 << 4 | 1 << 5 | 1 << 6,
+    [READ] = 1 << 0 | 1 << 1 | 1 << 2 | 1 << 3,
+    [INTERRUPT] = 1 << 0 | 1 << 1,
+    [REARM] = 1 << 0 | 1 << 1,
+    [SAMPLE] = 1 << 0 | 1 << 1 | 1 << 7 | 1 << 8 | 1 << 9,
+    [RUN] = 1 << 0 | 1 << 1 | 1 << 7 | 1 << 8 | 1 << 9,
+    [RUN_FILE] = 1 << 0 | 1 << 2 | 1 << 3 | 1 << 4 | 1 << 5 | 1 << 6 | 1 << 7 | 1 << 9 | 1 << 10 | 1 << 11 | 1 << 12 | 1 << 13,
+    [TRACE_WRITE] = 1 << 0 | 1 << 7 | 1 << 12 | 1 << 14 | (uint16_t)(1u << 15),
+    [TRACE_ITEM] = 1 << 0 | 1 << 7 | 1 << 10 | 1 << 11 | 1 << 12 | 1 << 13,
+};
+
+static void print_reason(unsigned number, const char *before)
+{
+    if (number) printf("%s%u", before, number);
+    else printf("%sw", before);
+}
+
+static void print_count(uint64_t count)
+{
+    if (count) printf(": %" PRIu64, count);
+    else printf(": NEVER");
+}
+
+static bool answers_summary(void)
+{
+    bool complete = true;
+    uint64_t all = 0;
+    printf("Calls compared, by answer:\n");
+    for (unsigned call = 0; call < CALLS; call++) {
+        uint64_t calls = 0;
+        for (unsigned n = 0; n < 16; n++) calls += answers[call][n];
+        all += calls;
+        printf("  %-17s %9" PRIu64 ":", call_name[call], calls);
+        for (unsigned n = 0; n < 16; n++) {
+            const bool due = expected[call] >> n & 1, seen = answers[call][n];
+            if (!due && !seen) continue;
+            printf(" %u", n);
+            print_count(answers[call][n]);
+            complete &= due && seen;
+        }
+        printf("\n");
+    }
+    printf("  in all %" PRIu64 " calls, %" PRIu64 " accepted samples\n", all, samples_compared);
+    return complete;
+}
+
+static bool orders_summary(void)
+{
+    bool complete = true;
+    printf("Two reasons for a refusal at once, the first one answered (w: a refused write of a file):\n");
+    for (unsigned call = 0; call < CALLS; call++) {
+        if (!order[call].count) continue;
+        printf("  %-17s", call_name[call]);
+        for (unsigned i = 0; i < order[call].count; i++) {
+            for (unsigned j = i + 1; j < order[call].count; j++) {
+                if (order[call].never[i] >> j & 1) continue;
+                print_reason(order[call].number[i], " ");
+                print_reason(order[call].number[j], "<");
+                print_count(together[call][i][j]);
+                complete &= together[call][i][j] != 0;
+            }
+        }
+        printf("\n");
+    }
+    return complete;
+}
+
+static bool branches_summary(void)
+{
+#define BRANCH_TEXT(name, text) text,
+    static const char *const branch[BRANCHES] = { MODEL_BRANCHES(BRANCH_TEXT) };
+#undef BRANCH_TEXT
+    bool complete = true;
+    printf("Branches of the model:\n");
+    for (unsigned i = 0; i < BRANCHES; i++) {
+        printf("  %-66s %10" PRIu64 "%s\n", branch[i], model_hits[i], model_hits[i] ? "" : " NEVER");
+        complete &= model_hits[i] != 0;
+    }
+    return complete;
+}
+
+bool checked_summary(void)
+{
+    const bool answered = answers_summary(), ordered = orders_summary(), reached = branches_summary();
+    if (far_missing) printf("Memory of more than 4 GiB was not to be had: that part was left out.\n");
+    return answered && ordered && reached;
+}

@@ -1,0 +1,779 @@
+/* Compares the library with the model.
+ *
+ *   compare               the paper's examples, then every seed; prints what was compared and reached
+ *   compare SEED          one seed alone
+ *   compare SEED CALLS    its first calls only
+ *
+ * The exit status is 0 if nothing differs and everything expected was reached. */
+#include <inttypes.h>
+#include <stdio.h>
+#include <stdlib.h>
+#include <string.h>
+
+#include "checked.h"
+#include "inputs.h"
+
+static trace t; /* the trace at hand */
+static uint8_t file[MOST_FILE];
+
+static uint32_t cr_of_device(void) { return device()[DCMI_W_CR]; }
+
+/* ---- the paper's examples ---- */
+
+static void expect(const char *what, uint64_t want, uint64_t got)
+{
+    if (want == got) return;
+    printf("the paper's examples, %s: the paper has 0x%" PRIX64 ", the model 0x%" PRIX64 "\n", what, want, got);
+    differs("not as the paper says");
+}
+
+static void expect_register(const char *what, uint32_t offset, uint32_t want)
+{
+    uint32_t value = 0;
+    expect(what, 0, check_read(offset, &value));
+    expect(what, want, value);
+}
+
+/* A word in the memory, little-endian. */
+static void expect_word(const char *what, size_t at, uint32_t want)
+{
+    const uint8_t *byte = memory_bytes() + at;
+    expect(what, want, byte[0] | (uint32_t)byte[1] << 8 | (uint32_t)byte[2] << 16 | (uint32_t)byte[3] << 24);
+}
+
+static void expect_device(const char *what, uint32_t landed, uint32_t held, uint32_t discarded, uint32_t ris)
+{
+    expect(what, landed, device()[DCMI_W_LANDED]);
+    expect(what, held, device()[DCMI_W_HELD]);
+    expect(what, discarded, device()[DCMI_W_DISCARDED]);
+    expect_register(what, DCMI_RIS, ris);
+}
+
+static const uint32_t trace_t[8] = { 0x0C000, 0x1C000, 0x00AAB, 0x10AAB, 0x0091B, 0x1091B, 0x2C000, 0x1C000 };
+
+/* Trace T with some CR, sample by sample; the word that it completes. */
+static uint32_t word_of_t(uint32_t cr)
+{
+    uint32_t word = 0;
+    check_reset();
+    lend_memory(16);
+    expect("setting up T", 0, check_write(DCMI_CR, cr));
+    for (unsigned i = 0; i < 8; i++) {
+        dcmi_answer answer;
+        expect("T", 0, check_sample(0, trace_t[i], &answer));
+        if (answer.packed == DCMI_COMPLETED) word = (uint32_t)answer.value;
+        expect("the landing of T", cr != 0x40E3 && i == 6, answer.landed);
+    }
+    return word;
+}
+
+/* A blank edge, then pixels without grants; the last one's working sample is granted or not. */
+static void pixels(unsigned count, bool grant)
+{
+    check_reset();
+    lend_memory(16);
+    check_write(DCMI_CR, 0x48E3);
+    check_sample(0, 0x0C000, NULL);
+    check_sample(0, 0x1C000, NULL);
+    for (unsigned i = 1; i <= count; i++) {
+        check_sample(0, i, NULL);
+        check_sample(0, 0x10000 | i | (grant && i == count ? 0x20000 : 0), NULL);
+    }
+}
+
+static void paper_crop(void)
+{
+    static const uint32_t data[4] = { 2731, 2331, 2732, 2733 };
+    dcmi_answer answer = { 0, 0, 0, 0 };
+    uint64_t word = 0;
+    check_reset();
+    lend_memory(16);
+    check_write(DCMI_CWSTRT, 1);
+    check_write(DCMI_CWSIZE, 1);
+    check_write(DCMI_CR, 0x48E7);
+    check_sample(0, 0x2C000, NULL);
+    check_sample(0, 0x3C000, NULL);
+    for (unsigned i = 0; i < 4; i++) {
+        check_sample(0, 0x20000 | data[i], NULL);
+        check_sample(0, 0x30000 | data[i], &answer);
+        if (answer.packed) word = answer.value;
+    }
+    expect("cropped word", 0x0AAC091B, word);
+    expect_word("memory of the crop", 0, 0x0AAC091B);
+    expect_device("crop", 1, 0, 0, 0x18);
+}
+
+static void paper_refusals(void)
+{
+    check_reset();
+    expect("CR 0x8", 5, check_write(DCMI_CR, 0x8));
+    expect("CR 0x1008", 4, check_write(DCMI_CR, 0x1008));
+    expect("sample 0x40000", 7, check_sample(0, 0x40000, NULL));
+    expect("sample 0x3FFFF", 0, check_sample(0, 0x3FFFF, NULL));
+    check_write(DCMI_CR, 0x4000);
+    expect("CWSTRT while enabled", 6, check_write(DCMI_CWSTRT, 0));
+}
+
+static void paper_memory(void)
+{
+    static const struct { size_t start; uint32_t answer, landed; } rows[] = { { 4, 0, 1 }, { 5, 0, 0 }, { 8, 0, 0 }, { 9, 9, 0 } };
+    for (unsigned i = 0; i < 4; i++) {
+        check_reset();
+        lend_memory(8);
+        check_write(DCMI_CR, 0x48E3);
+        expect("start byte", rows[i].answer, check_run(rows[i].start, trace_t, 8));
+        expect("landed", rows[i].landed, device()[DCMI_W_LANDED]);
+        if (rows[i].landed) expect_word("memory of T", rows[i].start, 0x091B0AAB);
+        expect("empty run", rows[i].answer, check_run(rows[i].start, NULL, 0));
+    }
+}
+
+static void paper_file(void)
+{
+    static const uint8_t printed[37] = {
+        0x46, 0x47, 0x54, 0x01, 0x00, 0x01, 0x08, 0x00, 0x00, 0xE3, 0x48, 0x00, 0x00, 0x00, 0xC0, 0x00, 0x00, 0xC0, 0x01,
+        0xAB, 0x0A, 0x00, 0xAB, 0x0A, 0x01, 0x1B, 0x09, 0x00, 0x1B, 0x09, 0x01, 0x00, 0xC0, 0x02, 0x00, 0xC0, 0x01,
+    };
+    lend_memory(16384);
+    expect("printed file", 0, check_run_file(printed, sizeof printed, 0));
+    expect("samples", 8, device()[DCMI_W_SAMPLES]);
+    expect_word("memory of the printed file", 0, 0x091B0AAB);
+    expect_device("printed file", 1, 0, 0, 0x19);
+    expect_register("CR after T", DCMI_CR, 0x48E2);
+    expect_register("SR after T", DCMI_SR, 3);
+    expect("ICR", 0, check_write(DCMI_ICR, 1));
+    expect_register("RIS after ICR", DCMI_RIS, 0x18);
+}
+
+static void paper_examples(void)
+{
+    check_reset();
+    expect_register("fresh SR", DCMI_SR, 3);
+    expect("T at 12 bits", 0x091B0AAB, word_of_t(0x48E3));
+    expect("T at 10 bits", 0x011B02AB, word_of_t(0x44E3));
+    expect("T at 8 bits", 0, word_of_t(0x40E3));
+    expect_device("T at 8 bits", 0, 0, 0, 0x19);
+    pixels(9, false);
+    expect_device("nine pixels", 0, 4, 0, 0x18);
+    pixels(10, false);
+    expect_device("ten pixels", 0, 0, 5, 0x1A);
+    pixels(10, true);
+    expect_device("ten pixels, granted", 1, 4, 0, 0x18);
+    paper_crop();
+    paper_refusals();
+    paper_memory();
+    paper_file();
+}
+
+/* ---- pieces ---- */
+
+/* Bytes of memory: few, or enough for some frames. */
+static size_t any_length(void) { return chance(2, 3) ? below(41) : between(41, 256); }
+static size_t frame_length(void) { return chance(1, 3) ? below(41) : between(256, 4096); }
+
+/* A start byte within the memory. */
+static size_t good_start(void)
+{
+    const uint32_t length = (uint32_t)memory_length();
+    switch (below(4)) {
+    case 0: return below(length + 1);
+    case 1: return length < 9 ? length : length - below(9);
+    default: return 0;
+    }
+}
+
+static size_t bad_start(void)
+{
+    switch (below(5)) {
+    case 0: return memory_length() + 1;
+    case 1: return memory_length() + between(1, 9);
+    case 2: return SIZE_MAX - below(9);
+    case 3: return ((size_t)1 << between(32, 63)) + 2;
+    default: return memory_length() + random_u32() + 1;
+    }
+}
+
+static size_t any_start(void) { return chance(1, 8) ? bad_start() : good_start(); }
+
+/* A sample with a bit above 17. */
+static uint32_t damaged(uint32_t sample) { return sample | UINT32_C(1) << between(18, 31); }
+
+static uint32_t any_sample(void)
+{
+    const uint32_t sample = random_u32() & 0x3FFFF;
+    if (chance(1, 40)) return damaged(sample);
+    return chance(1, 100) ? 0x3FFFF + below(2) : sample;
+}
+
+static void any_write(const uint32_t *image)
+{
+    const uint32_t offset = any_offset();
+    check_write(offset, any_value(image));
+}
+
+static void any_single(void)
+{
+    const size_t start = any_start();
+    check_sample(start, any_sample(), NULL);
+}
+
+static void read_all(void)
+{
+    for (uint32_t offset = 0; offset <= 0x28; offset += 4) check_read(offset, NULL);
+    check_read(any_offset(), NULL);
+}
+
+static void runs(scene *s, size_t start, size_t count)
+{
+    scene_samples(s, t.samples, count);
+    check_run(start, t.samples, count);
+}
+
+static void singles(scene *s, size_t start, size_t count)
+{
+    for (size_t i = 0; i < count; i++) check_sample(start, scene_sample(s), NULL);
+}
+
+/* ---- camera: realistic traces, with register writes between them ---- */
+
+/* A disabled device becomes an enabled one, with a camera that fits it. */
+static void set_up(scene *s, size_t start)
+{
+    const uint32_t cr = valid_cr();
+    scene_make(s, cr);
+    if (chance(1, 2)) check_write(DCMI_CWSTRT, valid_cwstrt());
+    if (chance(1, 2)) check_write(DCMI_CWSIZE, valid_cwsize());
+    if (chance(1, 2)) check_write(DCMI_IER, below(32));
+    if (chance(1, 4)) check_write(DCMI_CR, cr & ~UINT32_C(0x4001));
+    if (chance(1, 4)) runs(s, start, below(20));
+    if (chance(1, 4)) {
+        check_write(DCMI_CR, cr & ~UINT32_C(1));
+        runs(s, start, below(20));
+    }
+    check_write(DCMI_CR, cr);
+}
+
+static void disable(scene *s, size_t start)
+{
+    check_write(DCMI_CR, cr_of_device() & ~UINT32_C(0x4001));
+    if (chance(1, 2)) singles(s, start, below(8));
+    set_up(s, start);
+}
+
+/* A run whose last or some other sample is damaged. */
+static void damaged_run(scene *s, size_t start)
+{
+    const uint32_t count = between(1, 30), at = chance(1, 2) ? count - 1 : below(count);
+    scene_samples(s, t.samples, count);
+    t.samples[at] = damaged(t.samples[at]);
+    check_run(start, t.samples, count);
+    check_sample(start, t.samples[at], NULL);
+}
+
+static void camera_action(scene *s, size_t *start)
+{
+    const bool idle = !(cr_of_device() & 1), full = 4 * (size_t)device()[DCMI_W_PLACE] + 4 > memory_length();
+    if (idle && chance(1, 2)) check_write(DCMI_CR, cr_of_device() | 1);
+    if (full && chance(1, 4)) check_rearm();
+    switch (below(40)) {
+    case 0: case 1: check_write(DCMI_CR, cr_of_device() ^ 1); break;
+    case 2: disable(s, *start); break;
+    case 3: check_write(DCMI_ICR, below(32)); break;
+    case 4: check_write(DCMI_IER, below(32)); break;
+    case 5: any_write(device()); break;
+    case 6: read_all(); break;
+    case 7: check_interrupt(); break;
+    case 8: check_rearm(); break;
+    case 9: damaged_run(s, *start); break;
+    case 10: runs(s, bad_start(), 5); break;
+    case 11: lend_memory(frame_length()); *start = good_start(); break;
+    case 12: *start = good_start(); break;
+    case 13: s->grant = chance(1, 3) ? 0 : below(257); break;
+    case 14: check_write(DCMI_CR, cr_of_device()); break;
+    case 15: runs(s, *start, chance(1, 8) ? 4000 : between(200, 600)); break;
+    case 16: case 17: case 18: case 19: case 20: case 21: case 22: case 23: singles(s, *start, between(1, 30)); break;
+    default: runs(s, *start, below(80)); break;
+    }
+}
+
+static void camera_history(unsigned actions)
+{
+    scene s;
+    check_reset();
+    lend_memory(frame_length());
+    size_t start = good_start();
+    set_up(&s, start);
+    while (actions-- && more()) camera_action(&s, &start);
+}
+
+static void camera_kind(void)
+{
+    while (more()) camera_history(between(10, 80));
+}
+
+/* ---- random: samples and writes without a plan ---- */
+
+static void random_action(void)
+{
+    const size_t count = chance(1, 50) ? 300 : below(12);
+    switch (below(12)) {
+    case 0: check_write(DCMI_CR, (cr_of_device() & 0x4000) ? cr_of_device() ^ 1 : valid_cr()); break;
+    case 1: any_write(device()); break;
+    case 2: check_read(any_offset(), NULL); break;
+    case 3: chance(1, 2) ? check_interrupt() : check_rearm(); break;
+    case 4: case 5: case 6: case 7: any_single(); break;
+    default:
+        for (size_t i = 0; i < count; i++) t.samples[i] = random_u32() & 0x3FFFF;
+        if (count && chance(1, 10)) t.samples[count - 1] = any_sample();
+        check_run(any_start(), t.samples, count);
+        break;
+    }
+}
+
+static void random_kind(void)
+{
+    while (more()) {
+        check_reset();
+        lend_memory(any_length());
+        for (unsigned n = between(20, 200); n && more(); n--) random_action();
+    }
+}
+
+/* ---- images: devices by hand, well-formed and damaged ---- */
+
+static void one_call(const uint32_t *image, unsigned which)
+{
+    set_device(image);
+    const size_t count = below(6);
+    switch (which) {
+    case 0: any_write(image); break;
+    case 1: check_read(any_offset(), NULL); break;
+    case 2: check_interrupt(); break;
+    case 3: check_rearm(); break;
+    case 4: any_single(); break;
+    default:
+        for (size_t i = 0; i < count; i++) t.samples[i] = any_sample();
+        check_run(any_start(), t.samples, count);
+        break;
+    }
+}
+
+static void every_call(const uint32_t *image)
+{
+    for (unsigned which = 0; which < 6; which++) one_call(image, which);
+}
+
+/* Each word with each value near a bound. */
+static void every_bound(const uint32_t *image)
+{
+    uint32_t changed[DCMI_WORDS], values[MOST_BOUNDS];
+    for (unsigned word = 0; word < DCMI_WORDS && more(); word++) {
+        const unsigned count = image_bounds(image, word, values);
+        for (unsigned i = 0; i < count; i++) {
+            memcpy(changed, image, sizeof changed);
+            changed[word] = values[i];
+            one_call(changed, (word + i) % 6);
+        }
+    }
+}
+
+/* A device that a history made, or one by hand. */
+static void some_image(uint32_t *image)
+{
+    if (chance(1, 8)) {
+        camera_history(between(5, 20));
+        memcpy(image, device(), 4 * DCMI_WORDS);
+    } else {
+        image_well_formed(image);
+    }
+}
+
+static void image_history(const uint32_t *image)
+{
+    scene s;
+    set_device(image);
+    lend_memory(any_length());
+    const size_t start = good_start();
+    scene_make(&s, image[DCMI_W_CR]);
+    every_call(image);
+    set_device(image);
+    singles(&s, start, between(1, 6));
+    if (chance(1, 2)) check_write(DCMI_CR, chance(1, 2) ? cr_of_device() ^ 1 : cr_of_device() & ~UINT32_C(0x4001));
+    runs(&s, start, below(40));
+    check_read(DCMI_SR, NULL);
+}
+
+static void images_kind(void)
+{
+    uint32_t image[DCMI_WORDS], changed[DCMI_WORDS];
+    while (more()) {
+        some_image(image);
+        image_history(image);
+        for (unsigned n = below(12); n; n--) {
+            memcpy(changed, image, sizeof changed);
+            image_damage(changed);
+            if (chance(1, 3)) image_damage(changed);
+            every_call(changed);
+        }
+        if (chance(1, 40)) every_bound(image);
+        if (chance(1, 20)) {
+            random_bytes((uint8_t *)changed, sizeof changed);
+            every_call(changed);
+            check_reset();
+        }
+    }
+}
+
+/* ---- limits: the last samples of the count, places and lengths above 32 bits ---- */
+
+/* Runs that just fit, just do not, and none. */
+static void last_samples(void)
+{
+    uint32_t image[DCMI_WORDS];
+    scene s;
+    do image_well_formed(image);
+    while (UINT32_MAX - image[DCMI_W_SAMPLES] > 60);
+    const uint32_t left = UINT32_MAX - image[DCMI_W_SAMPLES];
+    lend_memory(any_length());
+    scene_make(&s, image[DCMI_W_CR]);
+    set_device(image);
+    runs(&s, any_start(), left + 1 + left % 3);
+    t.samples[left] = damaged(t.samples[left]);
+    check_run(any_start(), t.samples, left + 1);
+    singles(&s, good_start(), left % 4);
+    while (device()[DCMI_W_SAMPLES] != UINT32_MAX && chance(15, 16)) {
+        const uint32_t rest = UINT32_MAX - device()[DCMI_W_SAMPLES], count = chance(1, 2) ? rest : between(1, rest);
+        runs(&s, good_start(), count);
+    }
+    any_single();
+    check_run(good_start(), NULL, 0);
+    runs(&s, good_start(), 2);
+    check_rearm();
+    check_write(DCMI_CR, cr_of_device() & ~UINT32_C(0x4001));
+}
+
+/* A device that holds words, whose next one lands at place k. */
+static void image_at_place(uint32_t *image, uint32_t place)
+{
+    do image_well_formed(image);
+    while (image[DCMI_W_HELD] < 2);
+    image[DCMI_W_PLACE] = place;
+    image[DCMI_W_LANDED] = place;
+    image[DCMI_W_DISCARDED] = 0;
+    image[DCMI_W_COMPLETED] = place + image[DCMI_W_HELD];
+    if (image[DCMI_W_SAMPLES] < image[DCMI_W_COMPLETED]) image[DCMI_W_SAMPLES] = image[DCMI_W_COMPLETED];
+}
+
+static bool far_landing(void)
+{
+    static const uint32_t places[] = { 0, 1, 0x3FFFFFFE, 0x3FFFFFFF, 0x40000000, 0x40000001, 0x7FFFFFFF, 0x80000000, 0xC0000000, 0xFFFFFFF8 };
+    static const uint64_t starts[] = { 0, 1, 7, 0xFFFFFFFF, 0x100000000, 0x100000005 };
+    const uint32_t place = places[below(10)];
+    const uint64_t start = place < 0xC0000000 ? starts[below(6)] : below(16), end = start + 4 * (uint64_t)place;
+    uint32_t image[DCMI_WORDS];
+    if (!lend_far_memory((size_t)(end + below(16)))) return false;
+    image_at_place(image, place);
+    set_device(image);
+    for (unsigned i = 0; i < 3; i++) check_sample((size_t)start, 0x20000 | any_sample(), NULL);
+    set_device(image);
+    for (unsigned i = 0; i < 4; i++) t.samples[i] = 0x20000 | (random_u32() & 0x3FFFF);
+    check_run((size_t)start, t.samples, 4);
+    check_run((size_t)start | (size_t)1 << 40, t.samples, 4);
+    return true;
+}
+
+/* A file, a count of samples and an output buffer that are right only without their upper bits. */
+static void far_file(void)
+{
+    trace_valid(&t, below(8));
+    const size_t length = trace_file(&t, file), above = (size_t)1 << 32;
+    lend_far_memory(2 * above);
+    check_trace_write(&t.writes, t.samples, t.count, above + below(40));
+    check_trace_write(&t.writes, (const uint32_t *)(const void *)far_memory(), above - below(4), MOST_MEMORY);
+    check_trace_write(&t.writes, (const uint32_t *)(const void *)far_memory(), above + t.count, MOST_MEMORY);
+    memcpy(far_memory(), file, length);
+    lend_memory(any_length());
+    check_run_file(far_memory(), above + length, 0);
+    check_trace_item(far_memory(), above + length, below(8), NULL);
+}
+
+static void limits_kind(void)
+{
+    while (more()) {
+        for (unsigned n = 40; n && more(); n--) last_samples();
+        if (far_landing()) far_file();
+        lend_memory(0);
+    }
+}
+
+/* ---- files ---- */
+
+static size_t any_place(size_t items)
+{
+    switch (below(5)) {
+    case 0: return items + below(3);
+    case 1: return SIZE_MAX - below(3);
+    case 2: return ((size_t)1 << between(32, 63)) + 2;
+    default: return below((uint32_t)items + 1);
+    }
+}
+
+/* A file on which both readers are asked. */
+static void ask(const uint8_t *bytes, size_t length)
+{
+    check_run_file(bytes, length, any_start());
+    check_trace_item(bytes, length, chance(1, 2) ? 0 : any_place(t.writes.count + t.count), NULL);
+}
+
+/* The writer gives the file back from the items of the reader. */
+static void rewrite(const uint8_t *bytes, size_t length)
+{
+    static uint32_t samples[TRACE_SAMPLES];
+    dcmi_writes writes = { .count = 0 };
+    dcmi_item item = { .kind = DCMI_WRITE };
+    size_t count = 0, place = 0, written;
+    for (; item.kind != DCMI_END; place = (size_t)item.next) {
+        if (check_trace_item(bytes, length, place, &item)) return;
+        if (item.kind == DCMI_WRITE) {
+            writes.offset[writes.count] = (uint8_t)item.offset;
+            writes.value[writes.count++] = (uint32_t)item.value;
+        } else if (item.kind == DCMI_SAMPLE) {
+            samples[count++] = (uint32_t)item.value;
+        }
+    }
+    check_trace_item(bytes, length, place, NULL);
+    if (check_trace_write(&writes, samples, count, length + below(3))) differs("the writer refused the items of an accepted file");
+    const uint8_t *again = written_file(&written);
+    if (written != length || memcmp(again, bytes, length)) differs("the writer made another file of the items of an accepted one");
+}
+
+/* Each byte of the header with each value; two of them at once. */
+static void damaged_header(size_t length)
+{
+    for (unsigned at = 0; at < 8; at++) {
+        const uint8_t right = file[at];
+        for (unsigned value = 0; value < 256; value++) {
+            file[at] = (uint8_t)value;
+            ask(file, length);
+        }
+        file[at] = right;
+    }
+    for (unsigned n = 100; n; n--) {
+        uint8_t header[8];
+        memcpy(header, file, 8);
+        const uint32_t one = below(8), other = below(8);
+        file[one] ^= (uint8_t)(1 << below(8));
+        file[other] = (uint8_t)random_u32();
+        ask(file, chance(1, 2) ? length : below((uint32_t)length + 4));
+        memcpy(file, header, 8);
+    }
+}
+
+/* Every cut, and some bytes too many. */
+static void wrong_length(size_t length)
+{
+    for (size_t cut = 0; cut < length; cut++) ask(file, cut);
+    random_bytes(file + length, 65536);
+    for (size_t more_bytes = 1; more_bytes <= 9; more_bytes++) ask(file, length + more_bytes);
+    ask(file, length + 256);
+    ask(file, length + 65536);
+}
+
+static void every_item(size_t length)
+{
+    const size_t items = t.writes.count + t.count;
+    for (size_t place = 0; place < items + 4; place++) check_trace_item(file, length, place, NULL);
+    for (unsigned n = 8; n; n--) check_trace_item(file, length, any_place(items), NULL);
+}
+
+/* Writes and samples that are refused when the file is run. */
+static void refused_content(void)
+{
+    uint32_t last[DCMI_WORDS] = { 0 };
+    if (t.writes.count) last[DCMI_W_CR] = t.writes.value[t.writes.count - 1];
+    for (unsigned n = below(4); n; n--) {
+        const size_t at = chance(1, 2) ? t.writes.count : below((uint32_t)t.writes.count + 1);
+        t.writes.offset[at] = (uint8_t)any_offset();
+        t.writes.value[at] = any_value(last);
+        if (at == t.writes.count) t.writes.count++;
+    }
+    if (t.count && chance(1, 2)) {
+        const size_t at = chance(1, 2) ? t.count - 1 : below((uint32_t)t.count);
+        t.samples[at] |= UINT32_C(1) << between(18, 23);
+    }
+    const size_t length = trace_file(&t, file);
+    check_run_file(file, length, any_start());
+    every_item(length);
+    rewrite(file, length);
+}
+
+/* As many writes as fit, all accepted: they end as they began. */
+static void fill_writes(size_t count)
+{
+    const dcmi_writes w = t.writes;
+    for (size_t i = 0; i < count; i++) {
+        const bool own = i + w.count >= count;
+        t.writes.offset[i] = own ? w.offset[i + w.count - count] : chance(1, 2) ? DCMI_IER : DCMI_CWSIZE;
+        t.writes.value[i] = own ? w.value[i + w.count - count] : below(32);
+    }
+    t.writes.count = count;
+}
+
+static void large_files(void)
+{
+    static const size_t counts[] = { 16383, 16384, 16384, 16384, 16385, 16386, 32768, 65535 };
+    for (unsigned i = 0; i < 8; i++) {
+        trace_valid(&t, counts[i]);
+        if (i >= 2) fill_writes(255);
+        const size_t length = trace_file(&t, file);
+        lend_memory(chance(1, 2) ? 16384 : chance(1, 2) ? any_length() : between(257, 70000));
+        check_run_file(file, length, any_start());
+        ask(file, length + 1);
+        ask(file, length - 1);
+        if (i == 2) rewrite(file, length);
+        for (unsigned n = 12; n; n--) check_trace_item(file, length, any_place(255 + counts[i]), NULL);
+        file[length - 1] |= (uint8_t)(1 << between(2, 7)); /* the last sample */
+        ask(file, length);
+        check_trace_item(file, length, t.writes.count + t.count - 1, NULL);
+        file[below(3)] ^= 0x20;
+        ask(file, length);
+        check_trace_item(file, length, t.writes.count + t.count - 1, NULL);
+        memcpy(file, "FGT", 3);
+        file[4] = (uint8_t)random_u32();
+        ask(file, length);
+        check_trace_item(file, length, t.writes.count + t.count - 1, NULL);
+    }
+}
+
+static void files_kind(void)
+{
+    for (unsigned turn = 0; more(); turn++) {
+        if (turn == 3) large_files();
+        uint32_t image[DCMI_WORDS];
+        random_bytes((uint8_t *)image, sizeof image);
+        set_device(image);
+        lend_memory(any_length());
+        trace_valid(&t, chance(1, 4) ? 0 : below(12));
+        if (chance(1, 4)) t.writes.count = 0;
+        const size_t length = trace_file(&t, file);
+        check_run_file(file, length, any_start());
+        every_item(length);
+        rewrite(file, length);
+        if (chance(1, 6)) damaged_header(length);
+        if (chance(1, 4)) wrong_length(length);
+        for (unsigned n = 20; n; n--) {
+            trace_valid(&t, below(chance(1, 8) ? 400 : 30));
+            check_run_file(file, trace_file(&t, file), any_start());
+            refused_content();
+        }
+    }
+}
+
+/* ---- writer ---- */
+
+static size_t any_writes_count(void)
+{
+    static const size_t counts[] = { 0, 1, 2, 254, 255, 255, 256, 257, 511, 65536, (size_t)1 << 32, ((size_t)1 << 32) + 1, SIZE_MAX, SIZE_MAX / 5 + 1 };
+    return chance(1, 2) ? below(10) : counts[below(14)];
+}
+
+static size_t any_sample_count(void)
+{
+    static const size_t counts[] = { 16383, 16384, 16384, 16385, 16386, 32768, 65535, 65536, 65537, 81920, MOST_SAMPLES };
+    return chance(23, 24) ? below(20) : counts[below(11)];
+}
+
+static size_t any_buffer(size_t needed)
+{
+    switch (below(8)) {
+    case 0: return 0;
+    case 1: return needed - 1;
+    case 2: return needed + 1;
+    case 3: return needed + below(200);
+    case 4: return below((uint32_t)needed);
+    default: return needed;
+    }
+}
+
+/* What was written, read back at every place, and run. */
+static void read_back(void)
+{
+    size_t length;
+    const uint8_t *bytes = written_file(&length);
+    memcpy(file, bytes, length);
+    if (t.count < 100) every_item(length);
+    check_run_file(file, length, any_start());
+    if (t.count < 100 || chance(1, 8)) rewrite(file, length);
+}
+
+static void writer_kind(void)
+{
+    while (more()) {
+        scene s;
+        scene_make(&s, valid_cr());
+        lend_memory(any_length());
+        random_bytes(t.writes.offset, sizeof t.writes.offset);
+        random_bytes((uint8_t *)t.writes.value, sizeof t.writes.value);
+        if (chance(1, 2)) trace_valid(&t, 0);
+        else t.writes.count = any_writes_count();
+        t.count = any_sample_count();
+        scene_samples(&s, t.samples, t.count > 16384 ? 100 : t.count);
+        if (t.count && chance(1, 4)) {
+            const size_t at = chance(1, 2) ? t.count - 1 : below((uint32_t)t.count);
+            t.samples[at] = chance(1, 2) ? 0x3FFFF : damaged(t.samples[at]);
+        }
+        const size_t writes = t.writes.count > 255 ? 255 : t.writes.count, samples = t.count > 16384 ? 16384 : t.count;
+        if (!check_trace_write(&t.writes, t.samples, t.count, any_buffer(8 + 5 * writes + 3 * samples))) read_back();
+    }
+}
+
+/* ---- seeds ---- */
+
+static const struct {
+    const char *name;
+    void (*run)(void);
+    uint64_t calls;
+} kinds[] = {
+    { "camera", camera_kind, 100000 },
+    { "random", random_kind, 50000 },
+    { "images", images_kind, 50000 },
+    { "limits", limits_kind, 20000 },
+    { "files", files_kind, 20000 },
+    { "writer", writer_kind, 20000 },
+};
+
+enum { KINDS = sizeof kinds / sizeof *kinds, ROUNDS = 48, SEEDS = 1 + ROUNDS * KINDS };
+
+/* Seed 0 is the paper's examples. The others go through the kinds, with the buffers lent in a different way each round. */
+static void run_seed(uint64_t seed, uint64_t calls)
+{
+    const uint64_t round = seed ? (seed - 1) / KINDS : 0;
+    const unsigned kind = seed ? (unsigned)((seed - 1) % KINDS) : 0;
+    const lending how = { .at_end = round % 2 == 0, .read_only = round % 8 < 2 };
+    random_seed(seed);
+    checked_seed(seed, how, calls ? calls : kinds[kind].calls);
+    if (seed) kinds[kind].run();
+    else paper_examples();
+}
+
+static int run_one(const char *seed, const char *calls)
+{
+    run_seed(strtoull(seed, NULL, 10), calls ? strtoull(calls, NULL, 10) : 0);
+    printf("seed %s: no difference\n", seed);
+    return 0;
+}
+
+static int run_all(void)
+{
+    for (uint64_t seed = 0; seed < SEEDS; seed++) run_seed(seed, 0);
+    const bool complete = checked_summary();
+    printf("%d seeds, no difference%s\n", SEEDS, complete ? "" : "; but something was NEVER reached");
+    return complete ? 0 : 1;
+}
+
+int main(int count, char **arguments)
+{
+    setvbuf(stdout, NULL, _IOLBF, 0);
+    checked_start();
+    return count > 1 ? run_one(arguments[1], count > 2 ? arguments[2] : NULL) : run_all();
+}

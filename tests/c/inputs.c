@@ -1,0 +1,307 @@
+#include "inputs.h"
+
+#include <string.h>
+
+/* ---- numbers ---- */
+
+static uint64_t state;
+
+void random_seed(uint64_t seed) { state = seed * UINT64_C(0x9E3779B97F4A7C15) + 1; }
+
+uint64_t random_u64(void)
+{
+    uint64_t z = state += UINT64_C(0x9E3779B97F4A7C15);
+    z = (z ^ z >> 30) * UINT64_C(0xBF58476D1CE4E5B9);
+    z = (z ^ z >> 27) * UINT64_C(0x94D049BB133111EB);
+    return z ^ z >> 31;
+}
+
+uint32_t random_u32(void) { return (uint32_t)(random_u64() >> 32); }
+uint32_t below(uint32_t bound) { return (uint32_t)((uint64_t)random_u32() * bound >> 32); }
+uint32_t between(uint32_t first, uint32_t last) { return first + (uint32_t)((uint64_t)random_u32() * ((uint64_t)last - first + 1) >> 32); }
+bool chance(uint32_t of, uint32_t out_of) { return below(out_of) < of; }
+
+void random_bytes(uint8_t *bytes, size_t count)
+{
+    for (size_t i = 0; i < count; i += 8) {
+        const uint64_t eight = random_u64();
+        memcpy(bytes + i, &eight, count - i < 8 ? count - i : 8);
+    }
+}
+
+/* ---- camera samples ---- */
+
+void scene_make(scene *s, uint32_t cr)
+{
+    static const uint32_t grants[] = { 0, 4, 16, 32, 64, 128, 256 };
+    *s = (scene){ .polarity = cr & 0xE0 };
+    s->width = between(1, chance(1, 4) ? 24 : 9);
+    s->height = between(1, chance(1, 4) ? 8 : 4);
+    s->hblank = below(4);
+    s->vblank = between(1, 4);
+    s->hold = chance(1, 8) ? between(2, 3) : 1;
+    s->grant = grants[below(7)];
+    s->glitch = chance(1, 2) ? 0 : below(64);
+    s->pixels_first = chance(1, 2);
+    s->hsync_idle = chance(1, 2);
+    if (chance(1, 8)) s->polarity = below(8) << 5;
+    if (chance(1, 20)) s->width = between(100, 700);
+    if (chance(1, 20)) {
+        s->height = between(100, 700);
+        s->width = between(1, 3);
+    }
+    s->clock = below(s->vblank + s->height * (s->hblank + s->width));
+}
+
+uint32_t scene_sample(scene *s)
+{
+    const bool working = s->part >= s->hold;
+    const uint32_t line = s->hblank + s->width, column = s->clock < s->vblank ? 0 : (s->clock - s->vblank) % line;
+    const bool vblank = s->clock < s->vblank;
+    const bool hblank = vblank ? !s->hsync_idle : s->pixels_first ? column >= s->width : column < s->hblank;
+    const uint64_t random = random_u64();
+    uint32_t sample = random & 0x3FFF;
+    sample |= (uint32_t)(hblank == (s->polarity >> 6 & 1)) << 14;
+    sample |= (uint32_t)(vblank == (s->polarity >> 7 & 1)) << 15;
+    sample |= (uint32_t)(working == (s->polarity >> 5 & 1)) << 16;
+    sample |= (uint32_t)((random >> 32 & 0xFF) < s->grant) << 17;
+    if (!working && (random >> 40 & 0xFF) < s->glitch) sample ^= (random >> 48 & 3) << 14;
+    if (++s->part == 2 * s->hold) {
+        s->part = 0;
+        if (++s->clock == s->vblank + s->height * line) s->clock = 0;
+    }
+    return sample;
+}
+
+void scene_samples(scene *s, uint32_t *samples, size_t count)
+{
+    for (size_t i = 0; i < count; i++) samples[i] = scene_sample(s);
+}
+
+/* ---- register values ---- */
+
+uint32_t valid_cr(void)
+{
+    uint32_t cr = 0x4000 | (random_u32() & 0xCE6);
+    cr |= below(3) << 8;
+    if (chance(7, 8)) cr |= 1;
+    return cr;
+}
+
+uint32_t valid_cwstrt(void)
+{
+    if (chance(1, 8)) return random_u32() & 0x1FFF3FFF;
+    const uint32_t line = below(3);
+    return line << 16 | below(5);
+}
+
+uint32_t valid_cwsize(void)
+{
+    if (chance(1, 8)) return random_u32() & 0x3FFF3FFF;
+    const uint32_t lines = below(3);
+    return lines << 16 | below(8);
+}
+
+uint32_t any_offset(void)
+{
+    static const uint32_t registers[] = { 0x00, 0x04, 0x08, 0x0C, 0x10, 0x14, 0x20, 0x24 };
+    const uint32_t known = registers[below(8)];
+    if (chance(7, 8)) return known;
+    switch (below(5)) {
+    case 0: return 0x18;
+    case 1: return 0x1C;
+    case 2: return below(0x30);
+    case 3: return known | UINT32_C(1) << between(6, 31);
+    default: return random_u32();
+    }
+}
+
+uint32_t any_value(const uint32_t *device)
+{
+    switch (below(10)) {
+    case 0: return 0;
+    case 1: return below(32);
+    case 2: return valid_cr();
+    case 3: return device[DCMI_W_CR] ^ UINT32_C(1) << below(16);
+    case 4: return device[DCMI_W_CR] ^ 1;
+    case 5: return device[DCMI_W_CR] & ~UINT32_C(0x4001);
+    case 6: return UINT32_C(1) << below(32);
+    case 7: return valid_cwsize();
+    case 8: return random_u32() & random_u32() & random_u32();
+    default: return chance(1, 4) ? UINT32_MAX : random_u32();
+    }
+}
+
+/* ---- device images ---- */
+
+/* A number from 0 to most, often an end or near one. */
+static uint32_t up_to(uint32_t most)
+{
+    switch (below(6)) {
+    case 0: return 0;
+    case 1: return most;
+    case 2: return most < 4 ? most : most - below(4);
+    case 3: return most < 4 ? below(most + 1) : below(4);
+    case 4: return most < 64 ? most : below(64);
+    default: return between(0, most);
+    }
+}
+
+static void image_counts(uint32_t *w)
+{
+    switch (below(4)) {
+    case 0: w[DCMI_W_SAMPLES] = below(40); break;
+    case 1: w[DCMI_W_SAMPLES] = UINT32_MAX - below(40); break;
+    case 2: w[DCMI_W_SAMPLES] = UINT32_MAX - below(4); break;
+    default: w[DCMI_W_SAMPLES] = random_u32(); break;
+    }
+    if (w[DCMI_W_SAMPLES] < w[DCMI_W_HELD]) w[DCMI_W_SAMPLES] = w[DCMI_W_HELD];
+    w[DCMI_W_COMPLETED] = w[DCMI_W_HELD] + up_to(w[DCMI_W_SAMPLES] - w[DCMI_W_HELD]);
+    w[DCMI_W_LANDED] = up_to(w[DCMI_W_COMPLETED] - w[DCMI_W_HELD]);
+    w[DCMI_W_DISCARDED] = w[DCMI_W_COMPLETED] - w[DCMI_W_HELD] - w[DCMI_W_LANDED];
+    w[DCMI_W_PLACE] = up_to(w[DCMI_W_LANDED]);
+    /* Places at which 4k leaves 32 bits. */
+    if (chance(1, 4) && w[DCMI_W_LANDED] >= UINT32_C(0xC0000010)) w[DCMI_W_PLACE] = (between(1, 3) << 30) + 2;
+}
+
+/* A line or column number in the window or near an end of it; at times with a bit more that a narrow comparison would lose. */
+static uint32_t near_window(uint32_t first, uint32_t more)
+{
+    const uint32_t wide = chance(1, 8) ? UINT32_C(1) << between(13, 31) : 0;
+    const uint32_t end = chance(1, 2) ? first + more : first;
+    return wide + (chance(1, 3) ? between(first, first + more) : end + below(3));
+}
+
+static void image_frame(uint32_t *w)
+{
+    const uint32_t most = w[DCMI_W_SAMPLES], start = w[DCMI_W_CWSTRT], size = w[DCMI_W_CWSIZE];
+    w[DCMI_W_LINES] = chance(1, 3) ? up_to(most) : near_window(start >> 16, size >> 16);
+    w[DCMI_W_PIXELS] = chance(1, 3) ? up_to(most) : near_window(start & 0x3FFF, size & 0x3FFF);
+    if (w[DCMI_W_LINES] > most) w[DCMI_W_LINES] = up_to(most);
+    if (w[DCMI_W_PIXELS] > most) w[DCMI_W_PIXELS] = up_to(most);
+}
+
+static void image_partial(uint32_t *w)
+{
+    const uint32_t edm = w[DCMI_W_CR] >> 10 & 3;
+    w[DCMI_W_PARTIAL_COUNT] = below(edm ? 2 : 4);
+    if (edm) w[DCMI_W_PARTIAL_BITS] = w[DCMI_W_PARTIAL_COUNT] ? random_u32() & ((UINT32_C(1) << (8 + 2 * edm)) - 1) : 0;
+    else w[DCMI_W_PARTIAL_BITS] = random_u32() & ((UINT32_C(1) << 8 * w[DCMI_W_PARTIAL_COUNT]) - 1);
+}
+
+void image_well_formed(uint32_t *w)
+{
+    const bool enabled = chance(7, 8);
+    memset(w, 0, 4 * DCMI_WORDS);
+    w[DCMI_W_CR] = enabled ? valid_cr() : valid_cr() & ~UINT32_C(0x4001);
+    w[DCMI_W_RIS] = below(32);
+    w[DCMI_W_IER] = below(32);
+    w[DCMI_W_CWSTRT] = chance(1, 4) ? random_u32() & 0x1FFF3FFF : valid_cwstrt();
+    w[DCMI_W_CWSIZE] = chance(1, 4) ? random_u32() & 0x3FFF3FFF : valid_cwsize();
+    for (unsigned i = DCMI_W_HSYNC; i <= DCMI_W_VSYNC_BLANKED; i++) w[i] = below(2);
+    if (enabled) {
+        w[DCMI_W_FRAME] = below(3);
+        w[DCMI_W_RATE] = below(UINT32_C(1) << (w[DCMI_W_CR] >> 8 & 3));
+        w[DCMI_W_HELD] = chance(1, 3) ? 4 : below(5);
+    }
+    for (unsigned i = 0; i < w[DCMI_W_HELD]; i++) w[DCMI_W_SLOT + i] = random_u32();
+    image_counts(w);
+    if (w[DCMI_W_FRAME]) image_frame(w);
+    if (w[DCMI_W_FRAME] == 2) image_partial(w);
+}
+
+/* Too many held words, the equation of counts kept. */
+static void image_overfull(uint32_t *w)
+{
+    const uint32_t held = chance(1, 2) ? 5 : chance(1, 2) ? between(5, 8) : w[DCMI_W_HELD] + (UINT32_C(1) << between(3, 30));
+    w[DCMI_W_SAMPLES] |= UINT32_C(1) << 31;
+    w[DCMI_W_COMPLETED] = held + w[DCMI_W_LANDED] % 1000;
+    w[DCMI_W_LANDED] %= 1000;
+    w[DCMI_W_PLACE] %= w[DCMI_W_LANDED] + 1;
+    w[DCMI_W_DISCARDED] = 0;
+    w[DCMI_W_HELD] = held;
+}
+
+/* Counts that fulfil the equation only if it wraps. */
+static void image_wrap(uint32_t *w)
+{
+    w[DCMI_W_LANDED] = w[DCMI_W_COMPLETED] + below(3) - w[DCMI_W_HELD];
+    if (chance(1, 2)) w[DCMI_W_LANDED] = random_u32();
+    w[DCMI_W_DISCARDED] = w[DCMI_W_COMPLETED] - w[DCMI_W_HELD] - w[DCMI_W_LANDED];
+    if (w[DCMI_W_PLACE] > w[DCMI_W_LANDED]) w[DCMI_W_PLACE] = 0;
+}
+
+unsigned image_bounds(const uint32_t *w, unsigned word, uint32_t *values)
+{
+    static const uint32_t fixed[] = {
+        0, 1, 2, 3, 4, 5, 7, 8, 9, 15, 16, 31, 32, 33, 0xFF, 0x100, 0x1FF, 0x3FF, 0x400, 0x3FFF, 0x4000, 0xFFFF, 0x10000, 0xFFFFFF, 0x1000000,
+        0x1FFF3FFF, 0x20000000, 0x3FFF3FFF, 0x40000000, 0x80000000, 0xFFFFFFFE, 0xFFFFFFFF,
+    };
+    const uint64_t random = random_u64();
+    const uint32_t near[] = {
+        w[word] + 1, w[word] - 1, ~w[word], w[word] ^ 0x80000000, w[DCMI_W_SAMPLES], w[DCMI_W_SAMPLES] + 1, w[DCMI_W_LANDED],
+        w[DCMI_W_LANDED] + 1, w[DCMI_W_COMPLETED] + 1, w[word] ^ UINT32_C(1) << (random & 31), w[word] ^ UINT32_C(1) << (random >> 8 & 15),
+        (uint32_t)(random >> 32),
+    };
+    const unsigned first = sizeof fixed / sizeof *fixed, second = sizeof near / sizeof *near;
+    memcpy(values, fixed, sizeof fixed);
+    memcpy(values + first, near, sizeof near);
+    return first + second;
+}
+
+void image_damage(uint32_t *w)
+{
+    if (chance(1, 8)) {
+        chance(1, 2) ? image_wrap(w) : image_overfull(w);
+        return;
+    }
+    uint32_t values[MOST_BOUNDS];
+    const unsigned word = below(DCMI_WORDS), count = image_bounds(w, word, values);
+    w[word] = values[below(count)];
+}
+
+/* ---- trace files ---- */
+
+static void trace_put(trace *t, uint8_t offset, uint32_t value)
+{
+    t->writes.offset[t->writes.count] = offset;
+    t->writes.value[t->writes.count++] = value;
+}
+
+void trace_valid(trace *t, size_t count)
+{
+    scene s;
+    const uint32_t cr = valid_cr();
+    t->writes.count = 0;
+    if (chance(3, 4)) trace_put(t, DCMI_CWSTRT, valid_cwstrt());
+    if (chance(3, 4)) trace_put(t, DCMI_CWSIZE, valid_cwsize());
+    if (chance(1, 2)) trace_put(t, DCMI_IER, below(32));
+    if (chance(1, 2)) trace_put(t, DCMI_ICR, below(32));
+    if (chance(1, 4)) trace_put(t, DCMI_CR, cr & ~UINT32_C(1));
+    if (chance(7, 8)) trace_put(t, DCMI_CR, cr);
+    scene_make(&s, cr);
+    t->count = count;
+    scene_samples(&s, t->samples, count);
+    if (count && chance(1, 4)) t->samples[below((uint32_t)count)] = 0x3FFFF;
+}
+
+static uint8_t *number_out(uint8_t *at, uint32_t value, unsigned bytes)
+{
+    for (unsigned i = 0; i < bytes; i++) *at++ = (uint8_t)(value >> 8 * i);
+    return at;
+}
+
+size_t trace_file(const trace *t, uint8_t *file)
+{
+    uint8_t *at = file;
+    at = number_out(at, 0x544746, 3); /* FGT */
+    at = number_out(at, 1, 2);
+    at = number_out(at, (uint32_t)t->writes.count, 1);
+    at = number_out(at, (uint32_t)t->count, 2);
+    for (size_t i = 0; i < t->writes.count; i++) {
+        at = number_out(at, t->writes.offset[i], 1);
+        at = number_out(at, t->writes.value[i], 4);
+    }
+    for (size_t i = 0; i < t->count; i++) at = number_out(at, t->samples[i], 3);
+    return (size_t)(at - file);
+}

@@ -1,0 +1,63 @@
+/* Random inputs: numbers, camera samples, register writes, device images, trace files. */
+#ifndef INPUTS_H
+#define INPUTS_H
+
+#include <stdbool.h>
+#include <stddef.h>
+#include <stdint.h>
+
+#include "dcmi.h"
+
+void random_seed(uint64_t seed);
+uint64_t random_u64(void);
+uint32_t random_u32(void);
+uint32_t below(uint32_t bound);                  /* 0 to bound - 1 */
+uint32_t between(uint32_t first, uint32_t last); /* ends included */
+bool chance(uint32_t of, uint32_t out_of);
+void random_bytes(uint8_t *bytes, size_t count);
+
+/* A camera that sends frames: vertical blanking, then lines of pixels with horizontal blanking between them. */
+typedef struct scene {
+    uint32_t polarity;                        /* the CR bits 5 to 7 that fit it */
+    uint32_t width, height, hblank, vblank;   /* in clocks and lines */
+    uint32_t hold;                            /* samples of each clock level */
+    uint32_t grant;                           /* chance of a grant, of 256 */
+    uint32_t glitch;                          /* chance of other pins between working edges, of 256 */
+    bool pixels_first;                        /* lines begin with pixels, else with blanking */
+    bool hsync_idle;                          /* HSYNC does not blank in vertical blanking */
+    uint32_t clock, part;                     /* place in the frame, and in the clock */
+} scene;
+
+void scene_make(scene *s, uint32_t cr);
+uint32_t scene_sample(scene *s);
+void scene_samples(scene *s, uint32_t *samples, size_t count);
+
+/* A CR value that a disabled device accepts, with ENABLE 1. */
+uint32_t valid_cr(void);
+uint32_t valid_cwstrt(void);
+uint32_t valid_cwsize(void);
+uint32_t any_offset(void);
+uint32_t any_value(const uint32_t *device);
+
+/* A well-formed device, often at the bounds of what is well-formed. */
+void image_well_formed(uint32_t *image);
+/* One word becomes something else; the device is mostly malformed then. */
+void image_damage(uint32_t *image);
+/* Values for a word of an image that lie near a bound; returns how many. */
+enum { MOST_BOUNDS = 64 };
+unsigned image_bounds(const uint32_t *image, unsigned word, uint32_t *values);
+
+/* The parts of a trace file. */
+enum { TRACE_SAMPLES = 1 << 17 };
+typedef struct trace {
+    dcmi_writes writes;
+    size_t count;
+    uint32_t samples[TRACE_SAMPLES];
+} trace;
+
+/* A trace that is accepted: a set-up, then a camera's samples. */
+void trace_valid(trace *t, size_t count);
+/* Its file, whatever it holds; returns the length. */
+size_t trace_file(const trace *t, uint8_t *file);
+
+#endif

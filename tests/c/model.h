@@ -1,0 +1,62 @@
+/* The camera interface written a second time, in plain C, from the scope paper alone. The comparison and the benchmark measure the library
+ * against it. "Rule n" in the comments is step n of "One sample"; a bare number that is returned is a refusal number of the paper's table. */
+#ifndef MODEL_H
+#define MODEL_H
+
+#include <stdbool.h>
+#include <stddef.h>
+#include <stdint.h>
+
+typedef enum { FRAME_CLOSED, FRAME_UNTAKEN, FRAME_TAKEN } frame_state;
+
+typedef struct camera {
+    uint32_t cr, ris, ier, cwstrt, cwsize;
+    uint32_t pins;                /* levels at the last sample: bit 0 HSYNC, 1 VSYNC, 2 clock */
+    uint32_t blanked;             /* which syncs blanked at the last working edge: bit 0 HSYNC, 1 VSYNC */
+    frame_state frame;
+    uint32_t lines, pixels;       /* lines begun in the open frame, pixels of the last one */
+    uint32_t rate;                /* the rate counter: frames started, modulo 1, 2 or 4 */
+    uint32_t data, partial;       /* the partial word: how many data, and their bits */
+    uint32_t fifo[4], held;       /* held words, oldest first, then zeros */
+    uint32_t place;               /* number of the next word to land */
+    uint32_t samples, completed, landed, discarded;
+} camera;
+
+/* The two answers of one sample. */
+typedef enum { PACKED_NOTHING, PACKED_WORD, PACKED_LOST } packing;
+
+typedef struct outcome {
+    bool landed;
+    size_t byte;     /* where in the memory the word landed, else 0 */
+    packing packed;
+    uint32_t word;   /* the completed word, else 0 */
+} outcome;
+
+/* An item of a trace file. */
+typedef enum { ITEM_END, ITEM_WRITE, ITEM_SAMPLE } item_kind;
+
+typedef struct trace_item {
+    item_kind kind;
+    uint8_t offset;
+    uint32_t value;
+    size_t next;
+} trace_item;
+
+/* A device image of the C interface as a camera; false if the image encodes none. And back. */
+bool model_from_image(camera *c, const uint32_t *image);
+void model_to_image(const camera *c, uint32_t *image);
+
+/* The calls. Each answers 0 or a refusal number; a refusal changes nothing. */
+void model_reset(camera *c);
+uint32_t model_write(camera *c, uint32_t offset, uint32_t value);
+uint32_t model_read(const camera *c, uint32_t offset, uint32_t *value);
+uint32_t model_interrupt(const camera *c, bool *up);
+uint32_t model_rearm(camera *c);
+uint32_t model_sample(camera *c, uint8_t *memory, size_t length, size_t start, uint32_t sample, outcome *out);
+uint32_t model_run(camera *c, uint8_t *memory, size_t length, size_t start, const uint32_t *samples, size_t count);
+uint32_t model_run_file(camera *c, const uint8_t *file, size_t file_length, uint8_t *memory, size_t length, size_t start);
+uint32_t model_trace_write(size_t writes, const uint8_t *offsets, const uint32_t *values, const uint32_t *samples, size_t count, uint8_t *out,
+                           size_t length, size_t *written);
+uint32_t model_trace_item(const uint8_t *file, size_t length, size_t place, trace_item *item);
+
+#endif
