@@ -1,0 +1,174 @@
+// Trace T of the bench sheet, sample by sample: one device is held in `log`, and lent for the write of CR and for each sample. After each call
+// its answer and what the device holds are printed, and compared with the stored output.
+ghost use mathlib.Core.Path.{_≡_};
+ghost use Prim.Native.Nat.{_<_};
+ghost use lib.ListN.{getD};
+ghost use Rattle.rules.specs.RegisterCalls as calls;
+ghost use Rattle.rules.specs.State as state;
+ghost use Rattle.device.specs.Answers as answers;
+ghost use Rattle.sample_log.specs.Samples.{trace-t, samples};
+use device::Outcome;
+use device::Reading;
+use device::Reply;
+use libc::STDOUT_FILENO;
+use registers::Register;
+use rules::Device;
+use rules::Fifo;
+use rules::Partial;
+use sampling::Landing;
+use sampling::Packing;
+
+fn text(t: &[u8]) {
+    io::write_all(STDOUT_FILENO, t);
+}
+
+fn hex(n: u32, digits: usize) {
+    io::print_hex(STDOUT_FILENO, n as u64, digits);
+}
+
+// A name and a number.
+fn count(name: &[u8], n: u32) {
+    text(name);
+    io::print_decimal(STDOUT_FILENO, n as u64);
+}
+
+// A name and what the register at an offset reads as.
+fn register(name: &[u8], d: Device, offset: u32, digits: usize) {
+    text(name);
+    let reading = device::read(d, offset);
+    match reading {
+        Reading::Value(value) => hex(value, digits),
+        Reading::Refused(refusal) => count(b"refused ", refusal.number()),
+    }
+}
+
+// A word, if it is there.
+fn word(there: bool, w: u32) {
+    if there {
+        text(b" ");
+        hex(w, 8);
+    }
+}
+
+// The held words, oldest first.
+fn held(fifo: Fifo) {
+    let slots = fifo.slots;
+    count(b"  held ", fifo.held);
+    word(0 < fifo.held, slots[0]);
+    word(1 < fifo.held, slots[1]);
+    word(2 < fifo.held, slots[2]);
+    word(3 < fifo.held, slots[3]);
+}
+
+fn partial(p: Partial) {
+    count(b", partial ", p.count);
+    word(0 < p.count, p.bits);
+}
+
+// What the device holds: the registers on a line; the held words, the partial one, the place and the counts on another.
+fn state(d: Device) {
+    register(b"  CR ", d, Register::CR, 4);
+    register(b", SR ", d, Register::SR, 1);
+    register(b", RIS ", d, Register::RIS, 2);
+    register(b", IER ", d, Register::IER, 2);
+    register(b", MIS ", d, Register::MIS, 2);
+    register(b", CWSTRT ", d, Register::CWSTRT, 8);
+    register(b", CWSIZE ", d, Register::CWSIZE, 8);
+    text(b"\n");
+    held(d.fifo);
+    partial(d.capture.partial);
+    count(b", place ", d.place);
+    count(b", samples ", d.counts.samples);
+    count(b", completed ", d.counts.completed);
+    count(b", landed ", d.counts.landed);
+    count(b", discarded ", d.counts.discarded);
+    text(b"\n");
+}
+
+// The answer of the write of CR, and the device after it.
+fn written(cr: u32, outcome: Outcome, d: Device) {
+    text(b"write 00 ");
+    hex(cr, 4);
+    match outcome {
+        Outcome::Accepted => text(b": accepted"),
+        Outcome::Refused(refusal) => count(b": refused ", refusal.number()),
+    }
+    text(b"\n");
+    state(d);
+}
+
+fn landing(l: Landing) {
+    match l {
+        Landing::Nowhere => text(b": no landing"),
+        Landing::At(byte) => {
+            text(b": landed at byte ");
+            io::print_decimal(STDOUT_FILENO, byte as u64);
+        }
+    }
+}
+
+fn packing(p: Packing) {
+    match p {
+        Packing::Nothing => text(b", no word"),
+        Packing::Completed(word) => {
+            text(b", completed ");
+            hex(word, 8);
+        }
+        Packing::Lost => text(b", a word lost"),
+    }
+}
+
+// A sample's two answers, and the device after it.
+fn sampled(w: u32, reply: Reply, d: Device) {
+    text(b"sample ");
+    hex(w, 6);
+    match reply {
+        Reply::Answered(l, p) => {
+            landing(l);
+            packing(p);
+        }
+        Reply::Refused(refusal) => count(b": refused ", refusal.number()),
+    }
+    text(b"\n");
+    state(d);
+}
+
+// Sample i of trace T.
+fn trace_t(i: usize) -> u32
+    requires { ⌜ i < 8 ⌝ }
+    ensures { λ r. ⌜ r ≡ getD trace-t i 0 ⌝ }
+{
+    let t = [
+        0x0C000,
+        0x1C000,
+        0x00AAB,
+        0x10AAB,
+        0x0091B,
+        0x1091B,
+        0x2C000,
+        0x1C000,
+    ];
+    t[i]
+}
+
+// A write of CR and trace T. The one device is held here, and lent for each call. The device and the memory after them are the rules' own.
+fn log(cr: u32, memory: &mut [u8]) -> Device
+    ensures { λ r. ⌜ answers.stepped r (now (memory .exit)) ≡ samples (calls.write state.fresh 0x00 cr .device) (now (memory .entry)) trace-t ⌝ }
+{
+    let mut d = device::fresh();
+    let outcome = lent::write(&mut d, Register::CR, cr);
+    written(cr, outcome, d);
+    let mut i = 0;
+    while i < 8 {
+        let w = trace_t(i);
+        let reply = lent::sample(&mut d, memory, 0, w);
+        sampled(w, reply, d);
+        i += 1;
+    }
+    d
+}
+
+fn main() {
+    let mut memory = [0u8; 8];
+    log(0x48E3, &mut memory);
+}
