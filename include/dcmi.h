@@ -43,8 +43,8 @@ enum {
 };
 
 /* A device: an image of 32-bit words that the caller owns, copies and stores as it likes. `dcmi_reset` makes a fresh one. A word that is 0 or 1
- * says no or yes; an image with another value there, a frame above 2, or lines or pixels in a closed frame encodes no device: every call refuses
- * it with DCMI_MALFORMED, as it does a device that breaks one of the rules for well-formed devices. */
+ * says no or yes; an image with another value there, a frame above 2, or lines or pixels in a closed frame encodes no device: every call
+ * that reads a device refuses it with DCMI_MALFORMED, as it does a device that breaks one of the rules for well-formed devices. */
 enum {
     DCMI_WORDS = 26,
     DCMI_W_CR = 0,             /* registers */

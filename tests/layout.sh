@@ -11,7 +11,7 @@ say() {
 rt fmt --check >/dev/null 2>&1 || say "rt fmt would change a file: rt fmt --check tells which"
 
 # What is reachable from outside: lib.rt of each crate, and the modules that it declares `pub mod` or passes on by `pub use`. The crates
-# `capture` and `sampling` are for the crate `device` alone, and are left out.
+# `capture` and `sampling` are for the crates `device` and `files` alone, and are left out.
 checked=0
 for lib in crates/*/src/lib.rt; do
     folder=$(dirname "$lib")

@@ -1,5 +1,5 @@
 // Rules 2 to 8 of one sample, over the capture state: each rule a function with the name of its definition. The functions are for the
-// crate `device`, which calls them on well-formed devices; each states its result as an equation with its definition.
+// crates above, which call them on well-formed devices; each states its result as an equation with its definition.
 ghost use mathlib.Core.Path.{_≡_};
 ghost use Prim.Native.Nat.{_+_, _<_, _^_};
 ghost use Rattle.rules.specs.State as state;

@@ -13,10 +13,7 @@ use Rattle.trace.specs.declared.Item.the-variants.{Write, Sample, End, Refused}
 use Rattle.trace.specs.declared.Write.{Write as RegisterWrite}
 use Rattle.trace.specs.Answers as answers
 use Rattle.trace.specs.Reading as reading
-use Rattle.trace.proofs.Walk.{write-place}
-
-clash : _≡_ {A = ℕ} 0 1 → ⊥
-clash e = absurd (omega arith)
+use Rattle.trace.proofs.Walk.{clash, write-place}
 
 no-write : (i : Item) (w : RegisterWrite) → OneOf (1 ∷ 2 ∷ 3 ∷ []) (tagOf kinds.the-type i) → answers.item i ≡ reading.a-write w → ⊥
 no-write (Write v) w k e = miss (1 ∷ 2 ∷ 3 ∷ []) 0 tt k

@@ -14,6 +14,7 @@ use denote.Enum.Declared.{tagOf}
 use Rattle.refusals.specs.Samples.{bad-sample, any-bad}
 use Rattle.rules.specs.declared.Device.{Device}
 use Rattle.rules.specs.Run.{Ran, step, steps}
+use Rattle.rules.proofs.Booleans.{or-false}
 use Rattle.rules.proofs.WellFormed.{WellFormed}
 use Rattle.device.proofs.Going as going
 use Rattle.trace.proofs.Item as kinds
@@ -76,10 +77,6 @@ module _ {file : List ℕ} {place : ℕ} (c : Checking file place) where
       let (inside, bad) = refused-found file (c .k) _ (ap (reading.item file) (sym (c .at)) ∙ sym e) in
       rw (next file (c .k) inside, bad) at (c .left)
 
-either : (a b : Bool) → a || b ≡ false → (a ≡ false) × (b ≡ false)
-either true b e = (e, cc)
-either false b e = (refl, e)
-
 -- The run: the samples so far have been stepped through, and the place is that of sample k.
 pub record Stepping (file buffer₀ : List ℕ) (d₀ : Device) (buffer : List ℕ) (d : Device) (place : ℕ) : Type 0 where
   pub k : ℕ
@@ -110,7 +107,7 @@ module _ {file buffer₀ : List ℕ} {d₀ : Device} {buffer : List ℕ} {d : De
     stepping-on buffer′ d′ ed eb el =
         let inside = found .0 in
         let this : getD (samples-of file) (s .k) 0 ≡ w = sample-number file 0 (sample-count file) (s .k) 0 inside ∙ ap (sample-at file) (zero-add (s .k)) ∙ found .1 in
-        let (now, later) = either (bad-sample (sample-at file (s .k))) _ (rw (next file (s .k) inside) at (s .good)) in
+        let (now, later) = or-false (bad-sample (sample-at file (s .k))) _ (rw (next file (s .k) inside) at (s .good)) in
         record {
           k = s .k + 1;
           at = omega (arith, s .at);
@@ -129,6 +126,6 @@ module _ {file buffer₀ : List ℕ} {d₀ : Device} {buffer : List ℕ} {d : De
   stepping-end End t e = going.going-end (s .going) (rw (length-samples-of file) (end-found file (s .k) (ap (reading.item file) (sym (s .at)) ∙ sym e)))
   stepping-end (Refused r) t e =
       let (inside, bad) = refused-found file (s .k) _ (ap (reading.item file) (sym (s .at)) ∙ sym e) in
-      let (now, later) = either (bad-sample (sample-at file (s .k))) _ (rw (next file (s .k) inside) at (s .good)) in
+      let (now, later) = or-false (bad-sample (sample-at file (s .k))) _ (rw (next file (s .k) inside) at (s .good)) in
       let no : true ≡ false = sym bad ∙ now in
       absurd (let z : _≡_ {A = ℕ} 0 1 = cc in omega arith)

@@ -11,11 +11,8 @@ use borrow.Author.Tests.{leb-true, eqb-true}
 use Rattle.rules.specs.declared.Frame.{Frame}
 use Rattle.rules.specs.declared.Frame.the-variants.{Closed, Open}
 use Rattle.rules.specs.declared.Device.{Device}
+use Rattle.rules.proofs.Booleans.{and-true}
 use Rattle.image.specs.Image.{flag, frame-word, lines-word, pixels-word, image-of, flags-encode, frame-encodes, encodes, frame-of, device-of}
-
-both : (a b : Bool) → a && b ≡ true → (a ≡ true) × (b ≡ true)
-both true b e = (refl, e)
-both false b e = (e, cc)
 
 -- A flag and its word.
 flag-back : (b : Bool) → eqb (flag b) 1 ≡ b
@@ -54,12 +51,12 @@ frame-words-back : (frame lines pixels : ℕ) → frame-encodes frame lines pixe
     → (frame-word (frame-of frame lines pixels) ≡ frame) × (lines-word (frame-of frame lines pixels) ≡ lines) × (pixels-word (frame-of frame lines pixels) ≡ pixels)
 unfolding frame-encodes frame-of
 frame-words-back zero lines pixels e =
-    let (l, p) = both (eqb lines 0) (eqb pixels 0) e in
+    let (l, p) = and-true (eqb lines 0) (eqb pixels 0) e in
     (refl, sym (eqb-true lines 0 l), sym (eqb-true pixels 0 p))
 frame-words-back (suc zero) lines pixels e = (refl, refl, refl)
 frame-words-back (suc (suc zero)) lines pixels e = (refl, refl, refl)
 frame-words-back (suc (suc (suc n))) lines pixels e =
-    let (small, rest) = both (leb (suc (suc (suc n))) 2) _ e in
+    let (small, rest) = and-true (leb (suc (suc (suc n))) 2) _ e in
     absurd (omega (arith, leb-true (suc (suc (suc n))) 2 small))
 
 -- A list of known length is the list of its elements.
@@ -109,10 +106,10 @@ image-encodes d =
 pub image-back : (w : List ℕ) → length w ≡ 26 → encodes w ≡ true → image-of (device-of w) ≡ w
 unfolding encodes flags-encode image-of device-of elements
 image-back w all e =
-    let (flags, frame) = both (flags-encode (getD w 5 0) (getD w 6 0) (getD w 7 0) (getD w 8 0) (getD w 9 0)) (frame-encodes (getD w 10 0) (getD w 11 0) (getD w 12 0)) e in
-    let (a, r) = both (leb (getD w 5 0) 1) _ flags in
-    let (b, r′) = both (leb (getD w 6 0) 1) _ r in
-    let (c, r″) = both (leb (getD w 7 0) 1) _ r′ in
-    let (f, g) = both (leb (getD w 8 0) 1) (leb (getD w 9 0) 1) r″ in
+    let (flags, frame) = and-true (flags-encode (getD w 5 0) (getD w 6 0) (getD w 7 0) (getD w 8 0) (getD w 9 0)) (frame-encodes (getD w 10 0) (getD w 11 0) (getD w 12 0)) e in
+    let (a, r) = and-true (leb (getD w 5 0) 1) _ flags in
+    let (b, r′) = and-true (leb (getD w 6 0) 1) _ r in
+    let (c, r″) = and-true (leb (getD w 7 0) 1) _ r′ in
+    let (f, g) = and-true (leb (getD w 8 0) 1) (leb (getD w 9 0) 1) r″ in
     let (x, y, z) = frame-words-back (getD w 10 0) (getD w 11 0) (getD w 12 0) frame in
     rw (word-back _ a, word-back _ b, word-back _ c, word-back _ f, word-back _ g, x, y, z) (elements-all 26 w all)

@@ -1,5 +1,5 @@
 // One sample whole, over the device and the frame buffer: the grant (rule 1), the capture rules, and the full word (rule 9). The functions
-// are for the crate `device`, which calls them on well-formed devices; each states its result as an equation with its definition.
+// are for the crates `device` and `files`, which call them on well-formed devices; each states its result as an equation with its definition.
 ghost use mathlib.Core.Path.{_≡_};
 ghost use Prim.Native.Nat.{_+_, _<_, _^_};
 ghost use lib.ListN.{length};

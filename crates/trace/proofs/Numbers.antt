@@ -1,6 +1,6 @@
 -- A number and its little-endian bytes: each gives the other back, where the number is below 256 ^ n.
 -- The idea: by induction on the bytes, the lowest being x % 256 and the rest those of x / 256. Assumes nothing.
-use mathlib.Core.List.{List, [], _∷_, _++_}
+use mathlib.Core.List.{List, [], _∷_}
 use mathlib.Core.Path.{_≡_, refl, ap}
 use Prim.Native.Nat.{ℕ, zero, suc, _+_, _*_, _/_, _%_, _^_, _<_}
 use native.Mathlib.Nat.{pow-succ'}
@@ -13,10 +13,6 @@ use Rattle.trace.specs.Reading.{number}
 abbrev pub Bytes : List ℕ → Type 0
 Bytes [] = Unit {0}
 Bytes (b ∷ bs) = (b < 256) × Bytes bs
-
-pub bytes-append : (cs bs : List ℕ) → Bytes cs → Bytes bs → Bytes (cs ++ bs)
-bytes-append [] bs p q = q
-bytes-append (c ∷ cs) bs p q = (p .0, bytes-append cs bs (p .1) q)
 
 pub bytes-take : (n : ℕ) (bs : List ℕ) → Bytes bs → Bytes (take n bs)
 bytes-take zero bs p = tt
@@ -32,11 +28,6 @@ pub length-little : (n x : ℕ) → length (little n x) ≡ n
 unfolding little
 length-little zero x = refl
 length-little (suc n) x = ap suc (length-little n (x / 256))
-
-pub bytes-little : (n x : ℕ) → Bytes (little n x)
-unfolding little
-bytes-little zero x = tt
-bytes-little (suc n) x = (omega arith, bytes-little n (x / 256))
 
 pub number-little : (n x : ℕ) → x < 256 ^ n → number (little n x) ≡ x
 unfolding little number

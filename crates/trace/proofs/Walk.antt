@@ -3,14 +3,14 @@
 use mathlib.Core.Bool.{Bool, true, false, cond}
 use mathlib.Core.List.{List}
 use mathlib.Core.Path.{_≡_, refl, sym, ap, _∙_}
-use Prim.Native.Nat.{ℕ, suc, zero, _+_, _-_, _≤_, _<_, _^_}
+use Prim.Native.Nat.{ℕ, suc, zero, _+_, _-_, _≤_, _<_}
 use native.Mathlib.Nat.{add-zero, add-suc, suc-add}
 use native.Mathlib.Decide.{decLt}
 use native.Mathlib.Omega.{arith}
 use lib.Dec.{eqb}
 use lib.ListN.{getD}
 use Rattle.refusals.specs.Samples.{bad-sample}
-use borrow.Author.Tests.{lt-ltb, le-ltb, le-leb, lt-leb}
+use borrow.Author.Tests.{lt-ltb, le-ltb}
 use Rattle.trace.specs.declared.Write.{Write}
 use Rattle.trace.specs.Answers.{number}
 use Rattle.trace.specs.declared.Refusal.{Refusal}
@@ -37,22 +37,7 @@ pub end-place : (f : List ℕ) (k : ℕ) → write-count f + sample-count f ≤ 
 unfolding item
 end-place f k h = rw (le-ltb k (write-count f) (omega arith), le-ltb _ _ h)
 
--- A sample of 18 bits is given; one with a higher bit is refused.
-pub sample-given : (w : ℕ) → w < 2 ^ 18 → checked w ≡ a-sample w
-unfolding checked bad-sample
-sample-given w h = rw (lt-leb (2 ^ 18) w h)
-
-pub sample-refused : (w : ℕ) → 2 ^ 18 ≤ w → checked w ≡ refused 7
-unfolding checked bad-sample
-sample-refused w h = rw (le-leb (2 ^ 18) w h)
-
--- The lists are what stands at the places: number k of each list is the item read there.
-pub write-number : (f : List ℕ) (k n i : ℕ) (d : Write) → i < n → getD (writes-from f k n) i d ≡ write-at f (k + i)
-unfolding writes-from
-write-number f k zero i d = λ h. absurd (omega arith)
-write-number f k (suc n) zero d = λ h. rw add-zero
-write-number f k (suc n) (suc i) d = λ h. rw (add-suc, ← suc-add) (write-number f (suc k) n i d (omega arith))
-
+-- Number k of the list of samples is the sample read there.
 pub sample-number : (f : List ℕ) (k n i d : ℕ) → i < n → getD (samples-from f k n) i d ≡ sample-at f (k + i)
 unfolding samples-from
 sample-number f k zero i d = λ h. absurd (omega arith)
@@ -60,7 +45,7 @@ sample-number f k (suc n) zero d = λ h. rw add-zero
 sample-number f k (suc n) (suc i) d = λ h. rw (add-suc, ← suc-add) (sample-number f (suc k) n i d (omega arith))
 
 -- And back: an item that is a write, or a sample, is the one of its place.
-clash : _≡_ {A = ℕ} 0 1 → ⊥
+pub clash : _≡_ {A = ℕ} 0 1 → ⊥
 clash e = absurd (omega arith)
 
 checked-no-write : (x : ℕ) (w : Write) → checked x ≡ a-write w → ⊥

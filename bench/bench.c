@@ -1,0 +1,99 @@
+/* The cost of a sample: the library through the C header, and the plain C model of tests/c, on the same traces.
+ * usage: bench lib|file|model|none WIDTH CROP OVERRUN ROWS [TIMES]
+ * WIDTH is 8, 10, 12 or 14; CROP and OVERRUN are 0 or 1; ROWS is the number of rows of 660 pixel clocks, two samples a clock. */
+#include <stdio.h>
+#include <stdlib.h>
+#include <string.h>
+#include <time.h>
+
+#include "dcmi.h"
+#include "model.h"
+
+enum { CLOCKS = 660, COLUMNS = 640, MOST_ROWS = 2048, LARGEST_FILE = 16384 };
+
+static uint32_t samples[2 * CLOCKS * MOST_ROWS];
+static uint8_t memory[4 * COLUMNS * MOST_ROWS], file[8 + 5 * 255 + 3 * LARGEST_FILE];
+
+/* The middle rows, all but ten, and the first 640 clocks of each are not blanked; both polarities are 1; two samples a clock with the same pins and
+ * data; a grant at every fourth sample, or none. */
+static size_t make(unsigned rows, int overrun)
+{
+    size_t n = 0;
+    uint32_t random = 12345;
+    for (unsigned row = 0; row < rows; row++)
+        for (unsigned clock = 0; clock < CLOCKS; clock++) {
+            random = random * 1664525u + 1013904223u;
+            uint32_t pins = random >> 18;
+            if (clock >= COLUMNS)
+                pins |= 1u << 14;
+            if (row < 5 || row + 5 >= rows)
+                pins |= 1u << 15;
+            for (uint32_t level = 0; level < 2; level++, n++)
+                samples[n] = pins | level << 16 | (!overrun && n % 4 == 3 ? 1u << 17 : 0);
+        }
+    return n;
+}
+
+static double seconds(void)
+{
+    struct timespec t;
+    timespec_get(&t, TIME_UTC);
+    return (double)t.tv_sec + 1e-9 * (double)t.tv_nsec;
+}
+
+int main(int count, char **words)
+{
+    if (count < 6)
+        return fprintf(stderr, "usage: bench lib|file|model|none WIDTH CROP OVERRUN ROWS [TIMES]\n"), 2;
+    unsigned width = (unsigned)atoi(words[2]), rows = (unsigned)atoi(words[5]), times = count > 6 ? (unsigned)atoi(words[6]) : 1;
+    int crop = atoi(words[3]), overrun = atoi(words[4]);
+    if (rows > MOST_ROWS || width < 8 || width > 14)
+        return 2;
+    uint32_t cr = 0x40E1u | (width - 8) / 2 << 10 | (crop ? 4u : 0), start = 100u << 16 | 100, size = 199u << 16 | 299;
+    size_t n = make(rows, overrun);
+    if (!strcmp(words[1], "file") && n > LARGEST_FILE)
+        n = LARGEST_FILE;
+
+    dcmi_writes writes = {crop ? 3 : 1, {DCMI_CR}, {cr}};
+    if (crop) {
+        writes.offset[0] = DCMI_CWSTRT, writes.value[0] = start;
+        writes.offset[1] = DCMI_CWSIZE, writes.value[1] = size;
+        writes.offset[2] = DCMI_CR, writes.value[2] = cr;
+    }
+    size_t length = 0;
+    if (!strcmp(words[1], "file") && dcmi_trace_write(&writes, samples, n, file, sizeof file, &length))
+        return 1;
+
+    unsigned landed = 0;
+    double best = 1e9;
+    for (unsigned k = 0; k < times; k++) {
+        double begin = seconds();
+        if (!strcmp(words[1], "model")) {
+            camera c;
+            model_reset(&c);
+            for (size_t i = 0; i < writes.count; i++)
+                model_write(&c, writes.offset[i], writes.value[i]);
+            if (model_run(&c, memory, sizeof memory, 0, samples, n))
+                return 1;
+            landed = c.landed;
+        } else if (!strcmp(words[1], "lib")) {
+            dcmi_device d;
+            dcmi_reset(&d);
+            for (size_t i = 0; i < writes.count; i++)
+                dcmi_write(&d, writes.offset[i], writes.value[i]);
+            if (dcmi_run(&d, memory, sizeof memory, 0, samples, n))
+                return 1;
+            landed = d.word[DCMI_W_LANDED];
+        } else if (!strcmp(words[1], "file")) {
+            dcmi_device d;
+            if (dcmi_run_file(&d, file, length, memory, sizeof memory, 0))
+                return 1;
+            landed = d.word[DCMI_W_LANDED];
+        }
+        double took = seconds() - begin;
+        if (took < best)
+            best = took;
+    }
+    printf("%zu samples, %u landed, %.2f ns a sample\n", n, landed, 1e9 * best / (double)n);
+    return 0;
+}
