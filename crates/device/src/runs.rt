@@ -5,7 +5,6 @@ ghost use Prim.Native.Nat.{ℕ, _+_, _<_, _^_};
 ghost use lib.Dec.{ltb};
 ghost use lib.ListN.{length};
 ghost use Rattle.rules.specs.Run as rules;
-ghost use Rattle.rules.proofs.WellFormed.{WellFormed};
 ghost use Rattle.sampling.specs.Answers.{landing};
 ghost use Rattle.device.specs.Answers as answers;
 use crate::Outcome;
@@ -17,7 +16,7 @@ use crate::well_formed::malformed;
 use refusals::any_bad;
 use rules::Device;
 use sampling::Landing;
-use sampling::step;
+use sampling::steps;
 
 // Whether the samples in all would pass 4,294,967,295.
 fn too_many(before: u32, samples: &[u32]) -> bool
@@ -45,23 +44,6 @@ fn run_refusal(d: Device, memory: &[u8], start: usize, samples: &[u32]) -> Outco
     Outcome::Accepted
 }
 
-// The samples in order, with no more tests of them.
-fn steps(d: Device, buffer: &mut [u8], samples: &[u32]) -> Device
-    requires { ⌜ WellFormed d ⌝ }
-    requires { ⌜ d .counts .samples + length (now samples) < 2 ^ 32 ⌝ }
-    ensures { λ r. ⌜ answers.stepped r (now (buffer .exit)) ≡ rules.steps d (now (buffer .entry)) (now (samples .entry)) ⌝ }
-{
-    let mut e = d;
-    let mut i = 0;
-    while i < samples.len() {
-        let w = samples[i];
-        let after = step(e, buffer, w);
-        e = after.device;
-        i += 1;
-    }
-    e
-}
-
 // A run: refused, or the samples in order over the frame buffer, the part of memory from the start byte to its end.
 pub fn run(d: Device, memory: &mut [u8], start: usize, samples: &[u32]) -> Written
     ensures { λ r. ⌜ answers.ran r (now (memory .exit)) ≡ rules.run d (now (memory .entry)) start (now (samples .entry)) ⌝ }
@@ -73,7 +55,8 @@ pub fn run(d: Device, memory: &mut [u8], start: usize, samples: &[u32]) -> Writt
             outcome: Outcome::Refused(refusal),
         },
         Outcome::Accepted => {
-            let device = steps(d, &mut memory[start..], samples);
+            let after = steps(d, &mut memory[start..], samples);
+            let device = after.device;
             Written {
                 device,
                 outcome: Outcome::Accepted,
@@ -105,7 +88,7 @@ pub fn sample(d: Device, memory: &mut [u8], start: usize, w: u32) -> Sampled
             reply: Reply::Refused(refusal),
         },
         Outcome::Accepted => {
-            let after = step(d, &mut memory[start..], w);
+            let after = steps(d, &mut memory[start..], &one);
             let place = after.landing;
             let landing = in_memory(start, place);
             let packing = after.packing;

@@ -16,7 +16,7 @@ use Rattle.rules.specs.declared.Device.{Device}
 use Rattle.rules.specs.Run.{Ran, step, steps}
 use Rattle.rules.proofs.Booleans.{or-false}
 use Rattle.rules.proofs.WellFormed.{WellFormed}
-use Rattle.device.proofs.Going as going
+use Rattle.sampling.proofs.Going as going
 use Rattle.trace.proofs.Item as kinds
 use Rattle.trace.specs.declared.Item.{Item}
 use Rattle.trace.specs.declared.Item.the-variants.{Write, Sample, End, Refused}

@@ -15,7 +15,6 @@ ghost use Rattle.files.specs.File as file-rules;
 ghost use Rattle.files.specs.Answers as answers;
 use device::Written;
 use rules::Device;
-use sampling::step;
 use trace::Form;
 use trace::Item;
 use trace::Write;
@@ -126,7 +125,8 @@ fn steps(d: Device, buffer: &mut [u8], file: &[u8]) -> Device
         let Item::Sample(w) = item else {
             return e;
         };
-        let after = step(e, buffer, w);
+        let one = [w];
+        let after = sampling::steps(e, buffer, &one);
         e = after.device;
         place += 1;
     }

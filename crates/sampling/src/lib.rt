@@ -71,7 +71,7 @@ fn after_grant(d: Device, w: u32) -> Pushed
 }
 
 // The nine rules in order.
-pub fn step(d: Device, buffer: &mut [u8], w: u32) -> Stepped
+fn step(d: Device, buffer: &mut [u8], w: u32) -> Stepped
     requires { ⌜ WellFormed d ⌝ }
     requires { ⌜ d .counts .samples + 1 < 2 ^ 32 ⌝ }
     ensures { λ r. ⌜ answers.stepped r (now (buffer .exit)) ≡ rules.step d (now (buffer .entry)) w ⌝ }
@@ -87,4 +87,25 @@ pub fn step(d: Device, buffer: &mut [u8], w: u32) -> Stepped
         landing,
         packing,
     }
+}
+
+// The samples in order, with the answers of the last. Its loop is the one place where `step` is called, so that the compiler makes the rules part of it.
+pub fn steps(d: Device, buffer: &mut [u8], samples: &[u32]) -> Stepped
+    requires { ⌜ WellFormed d ⌝ }
+    requires { ⌜ d .counts .samples + length (now samples) < 2 ^ 32 ⌝ }
+    ensures { λ r. ⌜ answers.stepped r (now (buffer .exit)) ≡ rules.stepped (rules.unstepped d (now (buffer .entry))) (now (samples .entry)) ⌝ }
+{
+    let mut last = Stepped {
+        device: d,
+        landing: Landing::Nowhere,
+        packing: Packing::Nothing,
+    };
+    let mut i = 0;
+    while i < samples.len() {
+        let w = samples[i];
+        let e = last.device;
+        last = step(e, buffer, w);
+        i += 1;
+    }
+    last
 }

@@ -4,7 +4,7 @@ use Prim.Native.Nat.{_+_, _-_}
 use borrow.Author.Needs.{needs}
 use mathlib.Core.Path.{sym, ap, _∙_}
 use native.Mathlib.Omega.{arith}
-use Rattle.rules.specs.Run.{Stepped}
+use Rattle.rules.specs.Run.{Stepped, stepped}
 use Rattle.trace.specs.Answers.{item}
 use Rattle.trace.specs.Reading as reading
 use Rattle.files.proofs.Samples.{Stepping, stepping-start, stepping-less, stepping-asks, stepping-on, stepping-end}
@@ -35,22 +35,26 @@ same-length c = c .before .before .loop .inv .going .long
 returns : tie.Need-returns Inv-loop μ-loop
 returns c = sym (stepping-end (c .before .before .loop .inv) (c .before .item-at .result) (c .match .keys2) (c .before .item-at .ensures .0))
 
-step-requires : tie.Need-step-requires Inv-loop μ-loop
-step-requires c κs = stepping-asks (c .before .before .before .before .before .loop .inv) _ (sym (c .before .before .before .before .item-at .ensures .0) ∙ ap item (c .before .before .item .given .1)) (c .before .before .before .before .before .before .before .before .before .pre .1 .0) (c .before .before .before .before .before .before .before .before .before .pre .1 .1 .1)
+slice-aggregate-steps : tie.Need-slice-aggregate-steps Inv-loop μ-loop
+slice-aggregate-steps c = search needs
+
+steps-requires : tie.Need-steps-requires Inv-loop μ-loop
+steps-requires c κs = stepping-asks (c .before .before .before .before .before .before .loop .inv) _ (sym (c .before .before .before .before .before .item-at .ensures .0) ∙ ap item (c .before .before .before .item .given .1)) (c .before .before .before .before .before .before .before .before .before .before .pre .1 .0) (c .before .before .before .before .before .before .before .before .before .before .pre .1 .1 .1)
 
 add-place : tie.Need-add-place Inv-loop μ-loop
 unfolding reading.past
-add-place c = record { fits = rw (c .before .before .before .before .before .before .item .given .1) at (c .before .before .before .before .before .before .before .before .item-at .ensures .1) }
+add-place c = record { fits = rw (c .before .before .before .before .before .before .before .item .given .1) at (c .before .before .before .before .before .before .before .before .before .item-at .ensures .1) }
 
 loop-less : tie.Need-loop-less Inv-loop μ-loop
-loop-less c = omega (arith, stepping-less (c .before .before .before .before .before .before .before .before .before .loop .inv) _ (sym (c .before .before .before .before .before .before .before .before .item-at .ensures .0) ∙ ap item (c .before .before .before .before .before .before .item .given .1)))
+loop-less c = omega (arith, stepping-less (c .before .before .before .before .before .before .before .before .before .before .loop .inv) _ (sym (c .before .before .before .before .before .before .before .before .before .item-at .ensures .0) ∙ ap item (c .before .before .before .before .before .before .before .item .given .1)))
 
 loop-again : tie.Need-loop-again Inv-loop μ-loop
+unfolding stepped
 loop-again c =
-    stepping-on (c .before .before .before .before .before .before .before .before .before .loop .inv) _ (sym (c .before .before .before .before .before .before .before .before .item-at .ensures .0) ∙ ap item (c .before .before .before .before .before .before .item .given .1)) _ _
-    (ap (λ (x : Stepped). x .device) (c .before .before .before .step .ensures))
-    (ap (λ (x : Stepped). x .buffer) (c .before .before .before .step .ensures))
-    (c .before .before .before .step .kept .1 .0)
+    stepping-on (c .before .before .before .before .before .before .before .before .before .before .loop .inv) _ (sym (c .before .before .before .before .before .before .before .before .before .item-at .ensures .0) ∙ ap item (c .before .before .before .before .before .before .before .item .given .1)) _ _
+    (ap (λ (x : Stepped). x .device) (c .before .before .before .steps .ensures))
+    (ap (λ (x : Stepped). x .buffer) (c .before .before .before .steps .ensures))
+    (c .before .before .before .steps .kept .1 .0)
 
 pub steps-spec : {M : Type 1} → statement M
 steps-spec =
@@ -64,7 +68,8 @@ steps-spec =
     enum-known-item
     same-length
     returns
-    step-requires
+    slice-aggregate-steps
+    steps-requires
     add-place
     loop-less
     loop-again)

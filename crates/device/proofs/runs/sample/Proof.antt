@@ -8,7 +8,7 @@ use native.Mathlib.Omega.{arith}
 use Rattle.device.proofs.AcceptedRuns.{tail-part, put-tail, landing-within, accepted-run, refused}
 use Rattle.device.specs.Answers.{outcome}
 use Rattle.rules.proofs.WellFormed.{facts}
-use Rattle.rules.specs.Run.{Stepped, sample}
+use Rattle.rules.specs.Run.{Stepped, stepped, sample}
 use Rattle.device.proofs.runs.sample.Statement.{statement}
 use Rattle.device.proofs.runs.sample.Tie as tie
 
@@ -24,26 +24,31 @@ enum-known-outcome c = search needs
 enum-told : tie.Need-enum-told
 enum-told c = search needs
 
-sub-step : tie.Need-sub-step
-sub-step c = accepted-run (c .before .before .before .before .before .before .args .d) (c .before .before .before .before .before .before .args .memory .now) (c .before .before .before .before .before .before .args .start) (c .before .before .before .before .before .before .args .w ∷ []) (sym (c .before .before .run-refusal .ensures) ∙ ap outcome (c .enum-told .given .1)) .within
+sub-steps : tie.Need-sub-steps
+sub-steps c = accepted-run (c .before .before .before .before .before .before .args .d) (c .before .before .before .before .before .before .args .memory .now) (c .before .before .before .before .before .before .args .start) (c .before .before .before .before .before .before .args .w ∷ []) (sym (c .before .before .run-refusal .ensures) ∙ ap outcome (c .enum-told .given .1)) .within
 
-part-step-start : tie.Need-part-step-start
-part-step-start c = accepted-run (c .before .before .before .before .before .before .args .d) (c .before .before .before .before .before .before .args .memory .now) (c .before .before .before .before .before .before .args .start) (c .before .before .before .before .before .before .args .w ∷ []) (sym (c .before .before .run-refusal .ensures) ∙ ap outcome (c .enum-told .given .1)) .within
+part-steps-start : tie.Need-part-steps-start
+part-steps-start c = accepted-run (c .before .before .before .before .before .before .args .d) (c .before .before .before .before .before .before .args .memory .now) (c .before .before .before .before .before .before .args .start) (c .before .before .before .before .before .before .args .w ∷ []) (sym (c .before .before .run-refusal .ensures) ∙ ap outcome (c .enum-told .given .1)) .within
 
-part-step-end : tie.Need-part-step-end
-part-step-end c = search needs
+part-steps-end : tie.Need-part-steps-end
+part-steps-end c = search needs
 
-step-requires : tie.Need-step-requires
-step-requires c κs =
-    let run = accepted-run (c .before .before .before .before .before .before .before .args .d) (c .before .before .before .before .before .before .before .args .memory .now) (c .before .before .before .before .before .before .before .args .start) (c .before .before .before .before .before .before .before .args .w ∷ []) (sym (c .before .before .before .run-refusal .ensures) ∙ ap outcome (c .before .enum-told .given .1)) in
+slice-aggregate-steps : tie.Need-slice-aggregate-steps
+slice-aggregate-steps c = search needs
+
+steps-requires : tie.Need-steps-requires
+steps-requires c κs =
+    let a = c .before .before .before .before .before .before .before .before .args in
+    let run = accepted-run (a .d) (a .memory .now) (a .start) (a .w ∷ []) (sym (c .before .before .before .before .run-refusal .ensures) ∙ ap outcome (c .before .before .enum-told .given .1)) in
     (facts _ (run .well), run .fits)
 
 in-memory-requires : tie.Need-in-memory-requires
+unfolding stepped
 in-memory-requires c κs = λ b e.
-    let a = c .before .before .before .before .before .before .before .before .before .before .args in
-    let stepped = rw tail-part at (c .before .before .step .ensures) in
-    let within = landing-within (a .d) (drop (a .start) (a .memory .now)) (a .w) b (sym (ap (λ (x : Stepped). x .landing) stepped) ∙ e) in
-    omega (arith, rw length-drop at within, c .before .before .before .before .before .before .before .before .before .before .good .1 .0 .0)
+    let a = c .before .before .before .before .before .before .before .before .before .before .before .args in
+    let one = rw tail-part at (c .before .before .steps .ensures) in
+    let within = landing-within (a .d) (drop (a .start) (a .memory .now)) (a .w) b (sym (ap (λ (x : Stepped). x .landing) one) ∙ e) in
+    omega (arith, rw length-drop at within, c .before .before .before .before .before .before .before .before .before .before .before .good .1 .0 .0)
 
 same-length : tie.Need-same-length
 same-length c = search needs
@@ -56,10 +61,10 @@ same-length-2 : tie.Need-same-length-2
 same-length-2 c = search needs
 
 returns-2 : tie.Need-returns-2
-unfolding sample
+unfolding sample stepped
 returns-2 c =
-    let stepped = rw tail-part at (c .before .before .before .before .step .ensures) in
-    rw (sym (c .before .before .before .before .before .before .before .before .run-refusal .ensures) ∙ ap outcome (c .before .before .before .before .before .before .enum-told .given .1), put-tail, c .before .in-memory .ensures, ← stepped)
+    let one = rw tail-part at (c .before .before .before .before .steps .ensures) in
+    rw (sym (c .before .before .before .before .before .before .before .before .before .run-refusal .ensures) ∙ ap outcome (c .before .before .before .before .before .before .before .enum-told .given .1), put-tail, c .before .in-memory .ensures, ← one)
 
 pub sample-spec : {M : Type 1} → statement M
 sample-spec =
@@ -69,10 +74,11 @@ sample-spec =
     run-refusal-requires
     enum-known-outcome
     enum-told
-    sub-step
-    part-step-start
-    part-step-end
-    step-requires
+    sub-steps
+    part-steps-start
+    part-steps-end
+    slice-aggregate-steps
+    steps-requires
     in-memory-requires
     same-length
     returns

@@ -1,6 +1,6 @@
 -- A run's loop: what is left of the samples leads from the present device and buffer to the same end as all of them from the first.
 -- The idea: one step takes the head of what is left. Assumes nothing.
-use mathlib.Core.List.{List}
+use mathlib.Core.List.{List, [], _∷_}
 use mathlib.Core.Option.{Option, none, some}
 use mathlib.Core.Path.{_≡_, refl, sym, ap, _∙_}
 use Prim.Native.Nat.{ℕ, _+_, _≤_, _<_}
@@ -12,7 +12,7 @@ use lib.Seq.{drop-cons}
 use Rattle.rules.specs.declared.Device.{Device}
 use Rattle.rules.specs.State.{depth, with-capture}
 use Rattle.rules.specs.Queue.{lands, landed, Granted, grant, discard, count-word, hold, overrun, Completed, full-word, complete}
-use Rattle.rules.specs.Run.{count-sample, after-grant, step, steps}
+use Rattle.rules.specs.Run.{count-sample, after-grant, Stepped, step, stepped, Ran, steps}
 use Rattle.rules.proofs.Booleans.{either}
 use Rattle.rules.proofs.WellFormed.{WellFormed}
 use Rattle.laws.proofs.KeepsQueue.{step-keeps}
@@ -58,3 +58,22 @@ module _ {buffer₀ samples : List ℕ} {d₀ : Device} {buffer : List ℕ} {d :
   pub going-end : length samples ≤ i → steps d₀ buffer₀ samples ≡ record { device = d; buffer = buffer }
   unfolding steps
   going-end past = sym (g .same) ∙ ap (λ (ws : List ℕ). steps d buffer ws) (drop-of-length-le samples past)
+
+-- With the answers of the last sample forgotten, it is the same run.
+abbrev pub ran-of : Stepped → Ran
+ran-of s = record { device = s .device; buffer = s .buffer }
+
+pub forget : (s : Stepped) (ws : List ℕ) → ran-of (stepped s ws) ≡ steps (s .device) (s .buffer) ws
+unfolding stepped steps
+forget s [] = refl
+forget s (w ∷ ws) = forget (step (s .device) (s .buffer) w) ws
+
+-- One step takes the head of what is left, and at the end nothing is left.
+pub stepped-on : (s s₀ : Stepped) (samples : List ℕ) (i : ℕ) (s′ : Stepped) → i < length samples → stepped s (drop i samples) ≡ stepped s₀ samples
+    → s′ ≡ step (s .device) (s .buffer) (getD samples i 0) → stepped s′ (drop (i + 1) samples) ≡ stepped s₀ samples
+unfolding stepped
+stepped-on s s₀ samples i s′ inside same e = rw (e, add-one) (rw (drop-cons samples i 0 inside) at same)
+
+pub stepped-end : (s s₀ : Stepped) (samples : List ℕ) (i : ℕ) → length samples ≤ i → stepped s (drop i samples) ≡ stepped s₀ samples → s ≡ stepped s₀ samples
+unfolding stepped
+stepped-end s s₀ samples i past same = rw (drop-of-length-le samples past) at same
