@@ -18,7 +18,7 @@ use Rattle.rules.specs.WellFormed.{all-zero, bad-fifo, unused-bits, full-partia
 use Rattle.rules.specs.RegisterCalls.{changes-setup, write-refusal, enabling, disabling, switch-enable, capture-rises, switch-capture, write-control, clear-flags, write-register, write-at, write}
 use Rattle.refusals.specs.Samples.{bad-sample, any-bad}
 use Rattle.rules.specs.Run.{count-sample, after-grant, step, steps, run-refusal, run, in-memory, sample}
-use Rattle.rules.proofs.Booleans.{and-true}
+use Rattle.refusals.proofs.Booleans.{and-true}
 use Rattle.delivery.specs.Calls.{Write, written, Call, System, accepted, after-call, samples, inside, moments}
 use Rattle.delivery.specs.Noted.{write-found, noted-write, noted-writes, note, noted, spacing}
 use Rattle.delivery.specs.Delivery.{contents, grants, Scenario, set-up, trace, distance, noted-by, Premises}

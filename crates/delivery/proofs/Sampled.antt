@@ -11,7 +11,8 @@ use Rattle.registers.specs.Control.{pckpol, edm, enable}
 use Rattle.rules.specs.declared.Capture.{Capture}
 use Rattle.rules.specs.State.{with-pins, with-syncs}
 use Rattle.rules.specs.Capture.{clock-pin, Captured, no-word, working-edge, remember-pins, blanking, per-word, at-edge, remember, capture-sample}
-use Rattle.rules.proofs.Booleans.{and-true, by-cond, either}
+use Rattle.refusals.proofs.Booleans.{and-true}
+use Rattle.rules.proofs.Booleans.{by-cond, either}
 use Rattle.delivery.specs.Noted.{spacing}
 use Rattle.delivery.proofs.Moved.{Paced, Moved, at-edge-moved}
 

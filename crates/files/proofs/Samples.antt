@@ -1,6 +1,6 @@
 -- The samples of a file, one after the other: the test of all of them, and their run.
 -- The idea: sample k stands at the k-th place after the writes; what is left begins with it. Assumes nothing.
-use mathlib.Core.Bool.{Bool, true, false, _||_}
+use mathlib.Core.Bool.{true, false, true≢false}
 use mathlib.Core.List.{List, [], _∷_}
 use mathlib.Core.Path.{_≡_, refl, sym, ap, _∙_}
 use Prim.Native.Nat.{ℕ, zero, suc, _+_, _-_, _≤_, _<_, _^_}
@@ -9,23 +9,23 @@ use native.Mathlib.Nat.{add-zero, zero-add, add-suc, suc-add, add-assoc}
 use native.Mathlib.Numerals.{add-one}
 use native.Mathlib.Omega.{arith}
 use lib.ListN.{length, getD}
-use types.Run.{OneOf, miss}
+use types.Run.{OneOf}
 use denote.Enum.Declared.{tagOf}
 use Rattle.refusals.specs.Samples.{bad-sample, any-bad}
 use Rattle.rules.specs.declared.Device.{Device}
 use Rattle.rules.specs.Run.{Ran, step, steps}
-use Rattle.rules.proofs.Booleans.{or-false}
+use Rattle.refusals.proofs.Booleans.{or-false}
 use Rattle.rules.proofs.WellFormed.{WellFormed}
 use Rattle.sampling.proofs.Going as going
 use Rattle.trace.proofs.Item as kinds
 use Rattle.trace.specs.declared.Item.{Item}
-use Rattle.trace.specs.declared.Item.the-variants.{Write, Sample, End, Refused}
 use Rattle.trace.specs.Answers as trace
 use Rattle.trace.specs.Reading as reading
 use Rattle.trace.specs.Reading.{write-count, sample-count, sample-at, samples-from, samples-of}
 use Rattle.trace.proofs.Rewritten.{length-samples-of}
-use Rattle.trace.proofs.Walk.{sample-number, write-found, sample-found, end-found, refused-found}
+use Rattle.trace.proofs.Walk.{sample-number, sample-found}
 use Rattle.files.specs.Answers.{refuses}
+use Rattle.files.proofs.Items.{Stopped, over, bad, stopped}
 
 -- What is left from sample k on begins with sample k.
 next : (file : List ℕ) (k : ℕ) → k < sample-count file → samples-from file k (sample-count file - k) ≡ sample-at file k ∷ samples-from file (k + 1) (sample-count file - (k + 1))
@@ -66,16 +66,11 @@ module _ {file : List ℕ} {place : ℕ} (c : Checking file place) where
   -- At an item that is no sample, a sample is bad exactly if it is a refusal.
   pub checking-end : (i : Item) → OneOf (0 ∷ 2 ∷ 3 ∷ []) (tagOf kinds.the-type i) → trace.item i ≡ reading.item file place → refuses i ≡ any-bad (samples-of file)
   unfolding any-bad
-  checking-end (Write w) t e =
-      let (inside, same) = write-found file (write-count file + c .k) w (ap (reading.item file) (sym (c .at)) ∙ sym e) in
-      absurd (omega (arith, inside))
-  checking-end (Sample w) t e = absurd (miss (0 ∷ 2 ∷ 3 ∷ []) 1 tt t)
-  checking-end End t e =
-      let past = end-found file (c .k) (ap (reading.item file) (sym (c .at)) ∙ sym e) in
-      rw (none file (c .k) past) at (c .left)
-  checking-end (Refused r) t e =
-      let (inside, bad) = refused-found file (c .k) _ (ap (reading.item file) (sym (c .at)) ∙ sym e) in
-      rw (next file (c .k) inside, bad) at (c .left)
+  checking-end i t e = go (stopped file place (c .k) i (c .at) t e)
+    where
+      go : Stopped file (c .k) i → refuses i ≡ any-bad (samples-of file)
+      go (over passes past) = passes ∙ rw (none file (c .k) past) at (c .left)
+      go (bad refusing inside is-bad) = refusing ∙ rw (next file (c .k) inside, is-bad) at (c .left)
 
 -- The run: the samples so far have been stepped through, and the place is that of sample k.
 pub record Stepping (file buffer₀ : List ℕ) (d₀ : Device) (buffer : List ℕ) (d : Device) (place : ℕ) : Type 0 where
@@ -119,13 +114,11 @@ module _ {file buffer₀ : List ℕ} {d₀ : Device} {buffer : List ℕ} {d : De
   pub stepping-end : (i : Item) → OneOf (0 ∷ 2 ∷ 3 ∷ []) (tagOf kinds.the-type i) → trace.item i ≡ reading.item file place
       → steps d₀ buffer₀ (samples-of file) ≡ record { device = d; buffer = buffer }
   unfolding any-bad
-  stepping-end (Write w) t e =
-      let (inside, same) = write-found file (write-count file + s .k) w (ap (reading.item file) (sym (s .at)) ∙ sym e) in
-      absurd (omega (arith, inside))
-  stepping-end (Sample w) t e = absurd (miss (0 ∷ 2 ∷ 3 ∷ []) 1 tt t)
-  stepping-end End t e = going.going-end (s .going) (rw (length-samples-of file) (end-found file (s .k) (ap (reading.item file) (sym (s .at)) ∙ sym e)))
-  stepping-end (Refused r) t e =
-      let (inside, bad) = refused-found file (s .k) _ (ap (reading.item file) (sym (s .at)) ∙ sym e) in
-      let (now, later) = or-false (bad-sample (sample-at file (s .k))) _ (rw (next file (s .k) inside) at (s .good)) in
-      let no : true ≡ false = sym bad ∙ now in
-      absurd (let z : _≡_ {A = ℕ} 0 1 = cc in omega arith)
+  stepping-end i t e = go (stopped file place (s .k) i (s .at) t e)
+    where
+      go : Stopped file (s .k) i → steps d₀ buffer₀ (samples-of file) ≡ record { device = d; buffer = buffer }
+      go (over passes past) = going.going-end (s .going) (rw (length-samples-of file) past)
+      go (bad refusing inside is-bad) =
+          let (good, later) = or-false (bad-sample (sample-at file (s .k))) _ (rw (next file (s .k) inside) at (s .good)) in
+          let clash : true ≡ false = sym is-bad ∙ good in
+          absurd (true≢false clash)

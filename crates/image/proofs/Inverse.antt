@@ -11,7 +11,7 @@ use borrow.Author.Tests.{leb-true, eqb-true}
 use Rattle.rules.specs.declared.Frame.{Frame}
 use Rattle.rules.specs.declared.Frame.the-variants.{Closed, Open}
 use Rattle.rules.specs.declared.Device.{Device}
-use Rattle.rules.proofs.Booleans.{and-true}
+use Rattle.refusals.proofs.Booleans.{and-true}
 use Rattle.image.specs.Image.{flag, frame-word, lines-word, pixels-word, image-of, flags-encode, frame-encodes, encodes, frame-of, device-of}
 
 -- A flag and its word.

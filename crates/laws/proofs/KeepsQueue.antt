@@ -16,7 +16,8 @@ use Rattle.rules.specs.Capture.{bus-grant, capture-sample}
 use Rattle.rules.specs.Queue.{pop, push, room, lands, Granted, landed, grant, discard, Completed, count-word, hold, lose-frame, overrun, full-word, complete}
 use Rattle.rules.specs.WellFormed.{all-zero}
 use Rattle.rules.specs.Run.{count-sample, after-grant, step}
-use Rattle.rules.proofs.Booleans.{and-true, by-cond}
+use Rattle.refusals.proofs.Booleans.{and-true}
+use Rattle.rules.proofs.Booleans.{by-cond}
 use Rattle.rules.proofs.WellFormed.{CaptureOk, QueueOk, WellFormed}
 use Rattle.laws.proofs.CaptureParts.{close-frame-ok}
 use Rattle.laws.proofs.FifoSlots.{pop-clear, push-clear}

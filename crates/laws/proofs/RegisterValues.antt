@@ -15,7 +15,8 @@ use Rattle.registers.specs.declared.Register.the-variants.{Control, InterruptEn
 use Rattle.rules.specs.declared.Registers.{Registers}
 use Rattle.rules.specs.State.{raised, lowered, with-cr}
 use Rattle.rules.specs.WellFormed.{excluded}
-use Rattle.rules.proofs.Booleans.{or-false, both-false, and-false, by-cond, None, none, none-any}
+use Rattle.refusals.proofs.Booleans.{or-false}
+use Rattle.rules.proofs.Booleans.{both-false, and-false, by-cond, None, none, none-any}
 
 bit-true : (k x : ℕ) → bit k x ≡ true → x / 2 ^ k % 2 ≡ 1
 bit-true k x e = eqb-true (x / 2 ^ k % 2) 1 e

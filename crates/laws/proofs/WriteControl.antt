@@ -17,7 +17,8 @@ use Rattle.rules.specs.declared.Capture.{Capture}
 use Rattle.rules.specs.State.{close-frame, with-cr, with-registers, with-syncs, with-frame, with-rate, with-partial}
 use Rattle.rules.specs.WellFormed.{excluded, unused-bits, is-open, lines, pixels}
 use Rattle.rules.specs.RegisterCalls.{changes-setup, enabling, disabling, switch-enable, capture-rises, switch-capture, write-control}
-use Rattle.rules.proofs.Booleans.{or-false, and-false, by-cond, either}
+use Rattle.refusals.proofs.Booleans.{or-false}
+use Rattle.rules.proofs.Booleans.{and-false, by-cond, either}
 use Rattle.rules.proofs.WellFormed.{CaptureOk}
 use Rattle.laws.proofs.RegisterValues.{allowed-cr}
 use Rattle.laws.proofs.Packing.{used, unused, per-word-positive}

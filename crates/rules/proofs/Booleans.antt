@@ -1,14 +1,11 @@
--- What the value of a test joined by `||` or `&&` tells, and a definition by `cond` taken apart. Assumes nothing.
+-- More of what the value of a test joined by `||` or `&&` tells (the first two laws are in `refusals`), and a definition by `cond` taken apart. Assumes nothing.
 use mathlib.Core.Bool.{Bool, true, false, cond, not, _&&_, _||_, true≢false, false≢true}
 use mathlib.Core.List.{List, [], _∷_}
 use mathlib.Core.Path.{_≡_, refl, sym, _∙_}
 use Prim.Native.Nat.{ℕ, _≤_, zero-le}
 use native.Mathlib.Nat.{le-refl}
+use Rattle.refusals.proofs.Booleans.{or-false}
 use Rattle.rules.specs.WellFormed.{any}
-
-pub or-false : (a b : Bool) → a || b ≡ false → (a ≡ false) × (b ≡ false)
-or-false true b e = absurd (true≢false e)
-or-false false b e = (refl, e)
 
 pub both-false : (a b : Bool) → a ≡ false → b ≡ false → a || b ≡ false
 both-false true b e f = absurd (true≢false e)
@@ -21,10 +18,6 @@ or-unit false = refl
 pub or-true : (b : Bool) → b || true ≡ true
 or-true true = refl
 or-true false = refl
-
-pub and-true : (a b : Bool) → a && b ≡ true → (a ≡ true) × (b ≡ true)
-and-true true b e = (refl, e)
-and-true false b e = absurd (false≢true e)
 
 -- `a && b` is false: from a, not b.
 pub and-false : (a b : Bool) → a && b ≡ false → a ≡ true → b ≡ false

@@ -16,7 +16,8 @@ use Rattle.rules.specs.State.{with-pins, with-syncs}
 use Rattle.rules.specs.Capture.{bus-grant}
 use Rattle.rules.specs.Queue.{pop, room, lands, landed, grant}
 use Rattle.rules.specs.Run.{count-sample}
-use Rattle.rules.proofs.Booleans.{and-true, either}
+use Rattle.refusals.proofs.Booleans.{and-true}
+use Rattle.rules.proofs.Booleans.{either}
 use Rattle.laws.proofs.CaptureParts.{pins-syncs-ok}
 use Rattle.rules.proofs.WellFormed.{CaptureOk, WellFormed}
 

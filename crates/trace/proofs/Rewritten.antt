@@ -1,6 +1,6 @@
 -- A file of good form is the very file that `encode` gives for its writes and samples: nothing in it is left unread.
 -- The idea: a field's number gives its bytes back, the items' bytes are one stretch of the file, and the stretches join. Assumes nothing.
-use mathlib.Core.Bool.{Bool, true, false, not, _&&_}
+use mathlib.Core.Bool.{true, not}
 use mathlib.Core.List.{List, [], _∷_, _++_}
 use mathlib.Core.Path.{_≡_, refl, sym, ap, _∙_}
 use Prim.Native.Nat.{ℕ, zero, suc, _+_, _*_, _≤_}
@@ -10,6 +10,7 @@ use lib.Seq.{length-take-le, take-length, take-add, drop-drop}
 use lib.Dec.{eqb, ltb}
 use borrow.Author.Tests.{ltb-false, eqb-true, not-false}
 use Rattle.refusals.proofs.Accepted.{accepted}
+use Rattle.refusals.proofs.Booleans.{and-true}
 use Rattle.refusals.specs.Refusals.{_⇒_}
 use Rattle.trace.specs.Format.{little, write-bytes, sample-bytes, mark, version, header, encode}
 use Rattle.trace.specs.Reading.{field, same, write-count, sample-count, whole, form-refusal, write-at, sample-at, writes-from, samples-from, writes-of, samples-of}
@@ -23,17 +24,13 @@ pub record Formed (f : List ℕ) : Type 0 where
   pub few : sample-count f ≤ 16384
   pub exact : length f ≡ whole f
 
-both : (a b : Bool) → a && b ≡ true → (a ≡ true) × (b ≡ true)
-both true b e = (refl, e)
-both false b e = (e, cc)
-
 same-equal : (xs ys : List ℕ) → same xs ys ≡ true → xs ≡ ys
 unfolding same
 same-equal [] [] e = refl
 same-equal [] (y ∷ ys) e = cc
 same-equal (x ∷ xs) [] e = cc
 same-equal (x ∷ xs) (y ∷ ys) e =
-    let (h, t) = both (eqb x y) (same xs ys) e in
+    let (h, t) = and-true (eqb x y) (same xs ys) e in
     rw (eqb-true x y h, same-equal xs ys t)
 
 pub formed : (f : List ℕ) → form-refusal f ≡ 0 → Formed f

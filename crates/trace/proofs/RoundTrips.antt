@@ -1,7 +1,7 @@
 -- A reader's walk over an accepted file visits exactly its writes, then exactly its samples, then the end, again and again. So what the writer
 -- writes reads back, and every accepted file is what the writer writes for its content.
 -- The idea: a walk over n items is one item and a walk over the rest; files and contents by `rewritten` and `ReadBack`. Assumes nothing.
-use mathlib.Core.Bool.{Bool, true, false, _||_}
+use mathlib.Core.Bool.{false}
 use mathlib.Core.List.{List, [], _∷_, _++_, map, append-assoc}
 use mathlib.Core.Path.{_≡_, refl, sym, ap, _∙_}
 use Prim.Native.Nat.{ℕ, zero, suc, _+_, _≤_, _<_, _^_}
@@ -13,6 +13,7 @@ use lib.ListN.{length, take, drop, replicate}
 use lib.Seq.{take-at}
 use borrow.Author.Tests.{ltb-false, le-ltb, leb-false}
 use Rattle.refusals.proofs.Accepted.{accepted}
+use Rattle.refusals.proofs.Booleans.{or-false}
 use Rattle.refusals.specs.Refusals.{_⇒_, answered}
 use Rattle.refusals.specs.Samples.{bad-sample, any-bad}
 use Rattle.trace.specs.declared.Write.{Write}
@@ -30,10 +31,6 @@ pub stays : (f : List ℕ) (p k : ℕ) → past p (found f p) ≡ p → visits f
 unfolding visits read
 stays f p zero e = refl
 stays f p (suc k) e = rw (e, stays f p k e)
-
-either : (a b : Bool) → a || b ≡ false → (a ≡ false) × (b ≡ false)
-either true b e = (e, cc)
-either false b e = (refl, e)
 
 module _ (f : List ℕ) (good : form-refusal f ≡ 0) where
   -- What one reading finds is the item at the place.
@@ -56,7 +53,7 @@ module _ (f : List ℕ) (good : form-refusal f ≡ 0) where
   unfolding visits read past samples-from any-bad checked
   visits-samples k zero m h b = rw (zero-add, add-zero)
   visits-samples k (suc n) m h b =
-      let (now, later) = either (bad-sample (sample-at f k)) (any-bad (samples-from f (suc k) n)) b in
+      let (now, later) = or-false (bad-sample (sample-at f k)) (any-bad (samples-from f (suc k) n)) b in
       rw (suc-add n m, finds (write-count f + k) _ (sample-place f k (omega arith)), now, add-one (write-count f + k), ← add-suc (write-count f) k, visits-samples (suc k) n m (omega arith) later, suc-add k n, add-suc k n)
 
   -- The whole walk.
@@ -73,7 +70,7 @@ samples-fit : (ss : List ℕ) → any-bad ss ≡ false → SamplesFit ss
 unfolding any-bad bad-sample
 samples-fit [] e = tt
 samples-fit (s ∷ ss) e =
-    let (now, later) = either (leb (2 ^ 18) s) (any-bad ss) e in
+    let (now, later) = or-false (leb (2 ^ 18) s) (any-bad ss) e in
     (leb-false _ _ now, samples-fit ss later)
 
 -- What the writer writes, the reader reads back: the same writes, then the same samples, then the end.
