@@ -1,6 +1,7 @@
 -- What the functions' sums and products need: RIS stays at most 31, a word has at most four data, and the packed bits fit 32 bits.
+-- And a working edge by whether a sync blanks.
 -- The idea: cases on the test, or a law of the crate `laws`. Assumes nothing.
-use mathlib.Core.Bool.{not, _&&_}
+use mathlib.Core.Bool.{Bool, true, false, not, _&&_, _||_}
 use mathlib.Core.Path.{_≡_, refl}
 use Prim.Native.Nat.{ℕ, _+_, _*_, _^_, _≤_, _<_}
 use native.Mathlib.Decide.{decLt}
@@ -10,9 +11,12 @@ use lib.Dec.{eqb}
 use lib.Pow.{pow-mono}
 use Rattle.registers.specs.Control.{fcrc}
 use Rattle.rules.specs.declared.Syncs.{Syncs}
+use Rattle.rules.specs.declared.Frame.{Frame}
+use Rattle.rules.specs.declared.Frame.the-variants.{Closed, Open}
 use Rattle.rules.specs.declared.Capture.{Capture}
-use Rattle.rules.specs.State.{raise, with-registers, with-ris}
-use Rattle.rules.specs.Capture.{vsync-flag, rate-period, width, lane, per-word, packed-bits}
+use Rattle.rules.specs.State.{not-blanking, raise, with-registers, with-ris}
+use Rattle.rules.specs.Capture.{no-word, vsync-flag, line-flag, sync-flags, frame-end, rate-period, frame-start, width, lane, per-word, packed-bits, pixel-in, pixel-edge, at-edge}
+use Rattle.refusals.proofs.Booleans.{or-false}
 use Rattle.rules.proofs.Booleans.{either}
 use Rattle.rules.proofs.WellFormed.{CaptureOk}
 use Rattle.laws.proofs.Packing.{layout, used, packed-partial, packed-full}
@@ -57,3 +61,29 @@ pub short-period : (cr : ℕ) → rate-period cr ≤ 4
 unfolding rate-period
 short-period cr =
     either (λ (n : ℕ). n ≤ 4) (eqb (fcrc cr) 0) (omega arith) (either (λ (n : ℕ). n ≤ 4) (eqb (fcrc cr) 1) (omega arith) (omega arith))
+
+-- An edge at which a sync blanks carries no pixel.
+no-pixel : (f : Frame) (s : Capture) (now : Syncs) (w : ℕ) → (now .hsync || now .vsync) ≡ true → pixel-in f s now w ≡ no-word s
+unfolding pixel-in
+no-pixel Closed s now w blanks = refl
+no-pixel (Open taken f) s now w blanks = rw blanks
+
+pub blanked-edge : (s : Capture) (now : Syncs) (w : ℕ) → (now .hsync || now .vsync) ≡ true
+    → at-edge s now w ≡ no-word (frame-start (frame-end (sync-flags s now) now) now)
+unfolding at-edge pixel-edge
+blanked-edge s now w blanks = no-pixel _ _ now w blanks
+
+-- Where neither blanks no flag rises and no frame ends.
+false-right : (a : Bool) → (a && false) ≡ false
+false-right true = refl
+false-right false = refl
+
+pub plain-edge : (s : Capture) (w : ℕ)
+    → at-edge s not-blanking w ≡ pixel-in (frame-start s not-blanking .frame) (frame-start s not-blanking) not-blanking w
+unfolding at-edge pixel-edge frame-end sync-flags line-flag vsync-flag
+plain-edge s w = rw (false-right, false-right)
+
+pub neither : (now : Syncs) → (now .hsync || now .vsync) ≡ false → now ≡ not-blanking
+neither now e =
+    let (h, v) = or-false (now .hsync) (now .vsync) e in
+    λ i. record { hsync = h i; vsync = v i }

@@ -68,8 +68,8 @@ fn end_of(frame: Frame, s: Capture) -> Capture
 {
     match frame {
         Frame::Closed => s,
-        Frame::Open(scan) => {
-            if scan.taken {
+        Frame::Open(taken, _) => {
+            if taken {
                 return close_frame(frame_captured(s));
             }
             close_frame(s)
@@ -121,18 +121,23 @@ fn open_frame(s: Capture) -> Capture
     let registers = s.registers;
     let pins = s.pins;
     let syncs = s.syncs;
-    let partial = s.partial;
+    let partial = Partial {
+        count: s.partial.count,
+        bits: s.partial.bits,
+    };
     let rate = next_rate(s);
     let taken = takes(s);
     Capture {
         registers,
         pins,
         syncs,
-        frame: Frame::Open(Scan {
+        frame: Frame::Open(
             taken,
-            lines: 0,
-            pixels: 0,
-        }),
+            Scan {
+                lines: 0,
+                pixels: 0,
+            },
+        ),
         rate,
         partial,
     }
@@ -159,7 +164,7 @@ fn start_of(frame: Frame, now: Syncs, s: Capture) -> Capture
             }
             s
         }
-        Frame::Open(_) => s,
+        Frame::Open(_, _) => s,
     }
 }
 

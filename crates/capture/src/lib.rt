@@ -8,6 +8,7 @@ ghost use Rattle.rules.specs.WellFormed.{lines, pixels};
 ghost use Rattle.rules.specs.declared.Frame.the-variants.{Open};
 ghost use Rattle.rules.proofs.WellFormed.{CaptureOk};
 ghost use Rattle.capture.specs.Answers.{captured as meant};
+ghost use Rattle.capture.specs.Parts as parts;
 
 pub mod frame;
 pub mod packing;
@@ -16,6 +17,7 @@ pub mod syncs;
 
 use rules::Capture;
 use rules::Frame;
+use rules::Partial;
 use rules::Scan;
 use rules::Syncs;
 
@@ -31,34 +33,37 @@ pub struct Captured {
     pub word: Word,
 }
 
-// The state with the open frame's place changed.
-fn with_scan(f: Scan, s: Capture) -> Capture
-    ensures { λ r. ⌜ r ≡ state.with-frame (Open f) s ⌝ }
+// The state with another place in the open frame. The partial word is copied by field: copied whole it is one 64-bit number to the compiler.
+fn with_scan(taken: bool, f: Scan, s: Capture) -> Capture
+    ensures { λ r. ⌜ r ≡ state.with-frame (Open taken f) s ⌝ }
 {
     let registers = s.registers;
     let pins = s.pins;
     let syncs = s.syncs;
     let rate = s.rate;
-    let partial = s.partial;
+    let partial = Partial {
+        count: s.partial.count,
+        bits: s.partial.bits,
+    };
     Capture {
         registers,
         pins,
+        frame: Frame::Open(taken, f),
         syncs,
-        frame: Frame::Open(f),
         rate,
         partial,
     }
 }
 
-// Rules 6 to 8 at a pixel of the open frame f.
-fn pixel(s: Capture, f: Scan, w: u32) -> Captured
+// Rules 6 to 8 at a pixel of an open frame, taken or not.
+fn pixel(s: Capture, taken: bool, f: Scan, w: u32) -> Captured
     requires { ⌜ (f .lines + 1 < 2 ^ 32) × (f .pixels + 1 < 2 ^ 32) ⌝ }
     requires { ⌜ (s .partial .count < rules.per-word (s .registers .cr)) × (rules.packed-bits s w < 2 ^ 32) ⌝ }
-    ensures { λ r. ⌜ meant r ≡ rules.pixel s f w ⌝ }
+    ensures { λ r. ⌜ meant r ≡ rules.pixel s taken f w ⌝ }
 {
     let next = pixels::next_pixel(s, f);
-    let placed = with_scan(next, s);
-    if pixels::captured(s, next) {
+    let placed = with_scan(taken, next, s);
+    if pixels::captured(s, taken, next) {
         return packing::pack(placed, w);
     }
     Captured {
@@ -67,41 +72,43 @@ fn pixel(s: Capture, f: Scan, w: u32) -> Captured
     }
 }
 
-fn pixel_in(frame: Frame, s: Capture, now: Syncs, w: u32) -> Captured
+// Rule 6 where neither sync blanks: in an open frame the edge carries a pixel.
+fn pixel_in(frame: Frame, s: Capture, w: u32) -> Captured
     requires { ⌜ (lines frame + 1 < 2 ^ 32) × (pixels frame + 1 < 2 ^ 32) ⌝ }
     requires { ⌜ (s .partial .count < rules.per-word (s .registers .cr)) × (rules.packed-bits s w < 2 ^ 32) ⌝ }
-    ensures { λ r. ⌜ meant r ≡ rules.pixel-in frame s now w ⌝ }
+    ensures { λ r. ⌜ meant r ≡ rules.pixel-in frame s state.not-blanking w ⌝ }
 {
     match frame {
         Frame::Closed => Captured {
             state: s,
             word: Word::Nothing,
         },
-        Frame::Open(f) => {
-            if now.hsync {
-                return Captured {
-                    state: s,
-                    word: Word::Nothing,
-                };
-            }
-            if now.vsync {
-                return Captured {
-                    state: s,
-                    word: Word::Nothing,
-                };
-            }
-            pixel(s, f, w)
-        }
+        Frame::Open(taken, f) => pixel(s, taken, f, w),
     }
 }
 
-// Rule 6: with both syncs not blanking in an open frame, the edge carries a pixel.
-fn pixel_edge(s: Capture, now: Syncs, w: u32) -> Captured
+// Rules 3 to 8 at a working edge at which neither sync blanks: no flag rises and no frame ends.
+fn neither_blanks(s: Capture, w: u32) -> Captured
     requires { ⌜ CaptureOk 4294967294 s ⌝ }
-    ensures { λ r. ⌜ meant r ≡ rules.pixel-edge s now w ⌝ }
+    ensures { λ r. ⌜ meant r ≡ rules.at-edge s state.not-blanking w ⌝ }
 {
-    let frame = s.frame;
-    pixel_in(frame, s, now, w)
+    let now = Syncs {
+        hsync: false,
+        vsync: false,
+    };
+    let started = frame::frame_start(s, now);
+    let frame = started.frame;
+    pixel_in(frame, started, w)
+}
+
+// Rules 3 to 5 at a working edge at which a sync blanks: it carries no pixel.
+fn one_blanks(s: Capture, now: Syncs) -> Capture
+    requires { ⌜ CaptureOk 4294967294 s ⌝ }
+    ensures { λ r. ⌜ r ≡ rules.frame-start (rules.frame-end (rules.sync-flags s now) now) now ⌝ }
+{
+    let flagged = syncs::sync_flags(s, now);
+    let ended = frame::frame_end(flagged, now);
+    frame::frame_start(ended, now)
 }
 
 // Rules 3 to 8 at a working edge.
@@ -109,35 +116,24 @@ fn at_edge(s: Capture, now: Syncs, w: u32) -> Captured
     requires { ⌜ CaptureOk 4294967294 s ⌝ }
     ensures { λ r. ⌜ meant r ≡ rules.at-edge s now w ⌝ }
 {
-    let flagged = syncs::sync_flags(s, now);
-    let ended = frame::frame_end(flagged, now);
-    let started = frame::frame_start(ended, now);
-    pixel_edge(started, now, w)
+    if syncs::one_of(now) {
+        return Captured {
+            state: one_blanks(s, now),
+            word: Word::Nothing,
+        };
+    }
+    neither_blanks(s, w)
 }
 
-// Whether each sync blanks is remembered, and the sample's levels are.
-fn remember(now: Syncs, w: u32, c: Captured) -> Captured
-    ensures { λ r. ⌜ meant r ≡ rules.remember now w (meant c) ⌝ }
-{
-    let word = c.word;
-    let mut s = c.state;
-    s.syncs = now;
-    let state = syncs::remember_pins(w, s);
-    Captured { state, word }
-}
-
-// Rules 2 to 8. Lines and pixels can be counted further by one.
-pub fn capture_sample(s: Capture, w: u32) -> Captured
+// Rules 3 to 8 at a working edge, and whether each sync blanks remembered. Lines and pixels can be counted further by one.
+pub fn edge(s: Capture, w: u32) -> Captured
     requires { ⌜ CaptureOk 4294967294 s ⌝ }
-    ensures { λ r. ⌜ meant r ≡ rules.capture-sample s w ⌝ }
+    ensures { λ r. ⌜ meant r ≡ parts.at-edge s w ⌝ }
 {
-    if syncs::working_edge(s, w) {
-        let now = syncs::blanking(s, w);
-        return remember(now, w, at_edge(s, now, w));
-    }
-    let state = syncs::remember_pins(w, s);
-    Captured {
-        state,
-        word: Word::Nothing,
-    }
+    let now = syncs::blanking(s, w);
+    let c = at_edge(s, now, w);
+    let word = c.word;
+    let mut state = c.state;
+    state.syncs = now;
+    Captured { state, word }
 }

@@ -24,13 +24,11 @@ pub fn next_pixel(s: Capture, f: Scan) -> Scan
 {
     if line_begins(s, f) {
         return Scan {
-            taken: f.taken,
             lines: f.lines + 1,
             pixels: 1,
         };
     }
     Scan {
-        taken: f.taken,
         lines: f.lines,
         pixels: f.pixels + 1,
     }
@@ -78,10 +76,10 @@ fn in_window(s: Capture, f: Scan) -> bool
 }
 
 // Rule 7: a pixel of a taken frame is captured if CROP is 0 or it is in the window.
-pub fn captured(s: Capture, f: Scan) -> bool
-    ensures { λ r. ⌜ r ≡ rules.captured s f ⌝ }
+pub fn captured(s: Capture, taken: bool, f: Scan) -> bool
+    ensures { λ r. ⌜ r ≡ rules.captured s taken f ⌝ }
 {
-    if f.taken {
+    if taken {
         if control::crop(s.registers.cr) {
             return in_window(s, f);
         }

@@ -1,5 +1,5 @@
 // A sample's fields, and rules 2 and 3: the working edge, blanking, and the flags VSYNC and LINE.
-ghost use mathlib.Core.Bool.{cond, Bool·beq};
+ghost use mathlib.Core.Bool.{cond, _||_, Bool·beq};
 ghost use mathlib.Core.Path.{_≡_};
 ghost use Prim.Native.Nat.{_+_, _/_, _%_, _<_, _≤_, _^_};
 ghost use lib.Dec.{eqb};
@@ -7,7 +7,6 @@ ghost use Rattle.rules.specs.State as state;
 ghost use Rattle.rules.specs.Capture as rules;
 use registers::control;
 use rules::Capture;
-use rules::Pins;
 use rules::Syncs;
 
 pub fn pixel_data(w: u32) -> u32
@@ -62,22 +61,6 @@ pub fn working_edge(s: Capture, w: u32) -> bool
     false
 }
 
-// Rule 2: the sample's levels are remembered.
-pub fn remember_pins(w: u32, mut s: Capture) -> Capture
-    ensures { λ r. ⌜ r ≡ rules.remember-pins w s ⌝ }
-{
-    let hsync = hsync_pin(w);
-    let vsync = vsync_pin(w);
-    let clock = clock_pin(w);
-    let pins = Pins {
-        hsync,
-        vsync,
-        clock,
-    };
-    s.pins = pins;
-    s
-}
-
 // A pin blanks when it equals its polarity bit.
 pub fn blanks(pin: bool, polarity: bool) -> bool
     ensures { λ r. ⌜ r ≡ Bool·beq pin polarity ⌝ }
@@ -93,6 +76,16 @@ pub fn blanking(s: Capture, w: u32) -> Syncs
     let hsync = blanks(hsync_pin(w), control::hspol(cr));
     let vsync = blanks(vsync_pin(w), control::vspol(cr));
     Syncs { hsync, vsync }
+}
+
+// Whether a sync blanks.
+pub fn one_of(now: Syncs) -> bool
+    ensures { λ r. ⌜ r ≡ (now .hsync || now .vsync) ⌝ }
+{
+    if now.hsync {
+        return true;
+    }
+    now.vsync
 }
 
 // A number with one of its bits made 1, the bit given by its weight.

@@ -73,7 +73,7 @@ close-frame-kept s = record { setup = refl; overrun = refl; fewer = omega arith 
 end-of-kept : (f : Frame) (s : Capture) → Kept s (end-of f s)
 unfolding end-of
 end-of-kept Closed s = kept s
-end-of-kept (Open f) s = then (either (Kept s) (f .taken) (frame-captured-kept s) (kept s)) (close-frame-kept _)
+end-of-kept (Open taken f) s = then (either (Kept s) taken (frame-captured-kept s) (kept s)) (close-frame-kept _)
 
 frame-end-kept : (s : Capture) (now : Syncs) → Kept s (frame-end s now)
 unfolding frame-end
@@ -86,7 +86,7 @@ start-of-kept Closed now s =
     either (Kept s) (capture (s .registers .cr) && s .syncs .vsync && not (now .vsync))
     (record { setup = refl; overrun = refl; fewer = omega arith })
     (kept s)
-start-of-kept (Open f) now s = kept s
+start-of-kept (Open taken f) now s = kept s
 
 -- Rules 3 to 5.
 pub early-kept : (s : Capture) (now : Syncs) → Kept s (frame-start (frame-end (sync-flags s now) now) now)

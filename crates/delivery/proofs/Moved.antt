@@ -1,6 +1,6 @@
 -- What a working edge makes of the capture state: CR's setup and OVR stay, and at most one datum is packed (`Moved`).
 -- The idea: rules 3 to 5 pack none (`Kept`), and rules 6 to 8 leave the registers. Assumes nothing.
-use mathlib.Core.Bool.{_||_}
+use mathlib.Core.Bool.{Bool, _||_}
 use mathlib.Core.Option.{Option, none, some}
 use mathlib.Core.Path.{_≡_, refl, _∙_}
 use Prim.Native.Nat.{ℕ, _+_, _≤_}
@@ -61,16 +61,16 @@ pack-moved s w =
     (λ short. record { setup = refl; overrun = refl; paced = omega arith })
     (λ full. record { setup = refl; overrun = refl; paced = (ltb-false (p + 1) q full, refl) })
 
-pixel-moved : (s : Capture) (f : Scan) (w : ℕ) → Moved s (pixel s f w)
+pixel-moved : (s : Capture) (taken : Bool) (f : Scan) (w : ℕ) → Moved s (pixel s taken f w)
 unfolding pixel with-frame
-pixel-moved s f w =
-    let k : Kept s (with-frame (Open (next-pixel s f)) s) = record { setup = refl; overrun = refl; fewer = omega arith } in
-    either (Moved s) (captured s (next-pixel s f)) (after k (pack-moved _ w)) (no-word-moved k)
+pixel-moved s taken f w =
+    let k : Kept s (with-frame (Open taken (next-pixel s f)) s) = record { setup = refl; overrun = refl; fewer = omega arith } in
+    either (Moved s) (captured s taken (next-pixel s f)) (after k (pack-moved _ w)) (no-word-moved k)
 
 pixel-in-moved : (f : Frame) (s : Capture) (now : Syncs) (w : ℕ) → Moved s (pixel-in f s now w)
 unfolding pixel-in
 pixel-in-moved Closed s now w = no-word-moved (kept s)
-pixel-in-moved (Open f) s now w = either (Moved s) (now .hsync || now .vsync) (no-word-moved (kept s)) (pixel-moved s f w)
+pixel-in-moved (Open taken f) s now w = either (Moved s) (now .hsync || now .vsync) (no-word-moved (kept s)) (pixel-moved s taken f w)
 
 -- Rules 3 to 8.
 pub at-edge-moved : (s : Capture) (now : Syncs) (w : ℕ) → Moved s (at-edge s now w)

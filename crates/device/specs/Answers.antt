@@ -5,7 +5,7 @@ use Prim.Native.Nat.{ℕ}
 use Rattle.rules.specs.declared.Device.{Device}
 use Rattle.refusals.specs.Refusals.{Answer, refused, answered}
 use Rattle.rules.specs.Answers.{Changed}
-use Rattle.rules.specs.Run.{Ran, RunResult, SampleAnswer, SampleResult}
+use Rattle.rules.specs.Run.{RunResult, SampleAnswer, SampleResult}
 use Rattle.sampling.specs.Answers.{landing, packing}
 use Rattle.device.specs.declared.Refusal.{Refusal}
 use Rattle.device.specs.declared.Refusal.the-variants.{Malformed, NoRegister, AccessKind, ReservedBit, Unsupported, Enabled, SampleBits, SampleCount, StartBeyond}
@@ -51,10 +51,7 @@ line (levels.Refused e) = refused (number e)
 abbrev pub written : Written → Changed
 written w = record { number = outcome (w .outcome); device = w .device }
 
--- With the frame buffer, and with the memory, that some samples leave.
-abbrev pub stepped : Device → List ℕ → Ran
-stepped d buffer = record { device = d; buffer = buffer }
-
+-- With the memory that some samples leave.
 abbrev pub ran : Written → List ℕ → RunResult
 ran w memory = record { number = outcome (w .outcome); device = w .device; memory = memory }
 

@@ -16,6 +16,7 @@ use crate::well_formed::malformed;
 use refusals::any_bad;
 use rules::Device;
 use sampling::Landing;
+use sampling::answers;
 use sampling::steps;
 
 // Whether the samples in all would pass 4,294,967,295.
@@ -55,8 +56,7 @@ pub fn run(d: Device, memory: &mut [u8], start: usize, samples: &[u32]) -> Writt
             outcome: Outcome::Refused(refusal),
         },
         Outcome::Accepted => {
-            let after = steps(d, &mut memory[start..], samples);
-            let device = after.device;
+            let device = steps(d, &mut memory[start..], samples);
             Written {
                 device,
                 outcome: Outcome::Accepted,
@@ -88,11 +88,9 @@ pub fn sample(d: Device, memory: &mut [u8], start: usize, w: u32) -> Sampled
             reply: Reply::Refused(refusal),
         },
         Outcome::Accepted => {
-            let after = steps(d, &mut memory[start..], &one);
-            let place = after.landing;
-            let landing = in_memory(start, place);
-            let packing = after.packing;
-            let device = after.device;
+            let device = steps(d, &mut memory[start..], &one);
+            let landing = in_memory(start, answers::landing(d, device));
+            let packing = answers::packing(d, device);
             Sampled {
                 device,
                 reply: Reply::Answered(landing, packing),

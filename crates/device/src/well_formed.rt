@@ -103,7 +103,7 @@ pub fn is_open(f: Frame) -> bool
 {
     match f {
         Frame::Closed => false,
-        Frame::Open(_) => true,
+        Frame::Open(_, _) => true,
     }
 }
 
@@ -112,7 +112,7 @@ fn is_taken(f: Frame) -> bool
 {
     match f {
         Frame::Closed => false,
-        Frame::Open(scan) => scan.taken,
+        Frame::Open(taken, _) => taken,
     }
 }
 
@@ -121,7 +121,7 @@ fn lines(f: Frame) -> u32
 {
     match f {
         Frame::Closed => 0,
-        Frame::Open(scan) => scan.lines,
+        Frame::Open(_, scan) => scan.lines,
     }
 }
 
@@ -130,7 +130,7 @@ fn pixels(f: Frame) -> u32
 {
     match f {
         Frame::Closed => 0,
-        Frame::Open(scan) => scan.pixels,
+        Frame::Open(_, scan) => scan.pixels,
     }
 }
 

@@ -13,9 +13,10 @@ use types.Run.{OneOf}
 use denote.Enum.Declared.{tagOf}
 use Rattle.refusals.specs.Samples.{bad-sample, any-bad}
 use Rattle.rules.specs.declared.Device.{Device}
-use Rattle.rules.specs.Run.{Ran, step, steps}
+use Rattle.rules.specs.Run.{steps}
 use Rattle.refusals.proofs.Booleans.{or-false}
 use Rattle.rules.proofs.WellFormed.{WellFormed}
+use Rattle.sampling.specs.Answers.{stepped}
 use Rattle.sampling.proofs.Going as going
 use Rattle.trace.proofs.Item as kinds
 use Rattle.trace.specs.declared.Item.{Item}
@@ -96,27 +97,27 @@ module _ {file buffer₀ : List ℕ} {d₀ : Device} {buffer : List ℕ} {d : De
     pub stepping-asks : d₀ .counts .samples ≡ 0 → sample-count file < 2 ^ 32 → WellFormed d × (d .counts .samples + 1 < 2 ^ 32)
     stepping-asks z few = (s .going .well, omega (arith, s .going .count, found .0))
 
-    pub stepping-on : (buffer′ : List ℕ) (d′ : Device) → d′ ≡ step d buffer w .device → buffer′ ≡ step d buffer w .buffer → length buffer′ ≡ length buffer
+    pub stepping-on : (buffer′ : List ℕ) (d′ : Device) → stepped d′ buffer′ ≡ steps d buffer (w ∷ []) → length buffer′ ≡ length buffer
         → Stepping file buffer₀ d₀ buffer′ d′ (place + 1)
     unfolding any-bad
-    stepping-on buffer′ d′ ed eb el =
+    stepping-on buffer′ d′ one el =
         let inside = found .0 in
         let this : getD (samples-of file) (s .k) 0 ≡ w = sample-number file 0 (sample-count file) (s .k) 0 inside ∙ ap (sample-at file) (zero-add (s .k)) ∙ found .1 in
         let (now, later) = or-false (bad-sample (sample-at file (s .k))) _ (rw (next file (s .k) inside) at (s .good)) in
         record {
           k = s .k + 1;
           at = omega (arith, s .at);
-          going = going.going-on (s .going) buffer′ d′ (rw (length-samples-of file) inside) (rw this ed) (rw this eb) el;
+          going = going.going-on (s .going) buffer′ d′ (rw (length-samples-of file) inside) (rw this one) el;
           good = later;
         }
 
   -- At an item that is no sample, all of them have been stepped through.
   pub stepping-end : (i : Item) → OneOf (0 ∷ 2 ∷ 3 ∷ []) (tagOf kinds.the-type i) → trace.item i ≡ reading.item file place
-      → steps d₀ buffer₀ (samples-of file) ≡ record { device = d; buffer = buffer }
+      → steps d₀ buffer₀ (samples-of file) ≡ stepped d buffer
   unfolding any-bad
   stepping-end i t e = go (stopped file place (s .k) i (s .at) t e)
     where
-      go : Stopped file (s .k) i → steps d₀ buffer₀ (samples-of file) ≡ record { device = d; buffer = buffer }
+      go : Stopped file (s .k) i → steps d₀ buffer₀ (samples-of file) ≡ stepped d buffer
       go (over passes past) = going.going-end (s .going) (rw (length-samples-of file) past)
       go (bad refusing inside is-bad) =
           let (good, later) = or-false (bad-sample (sample-at file (s .k))) _ (rw (next file (s .k) inside) at (s .good)) in

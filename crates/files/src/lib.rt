@@ -11,6 +11,7 @@ ghost use Rattle.rules.proofs.WellFormed.{WellFormed};
 ghost use Rattle.refusals.specs.Samples as samples;
 ghost use Rattle.trace.specs.Reading as reading;
 ghost use Rattle.device.specs.Answers as calls;
+ghost use Rattle.sampling.specs.Answers as sampling;
 ghost use Rattle.files.specs.File as file-rules;
 ghost use Rattle.files.specs.Answers as answers;
 use device::Written;
@@ -116,7 +117,7 @@ fn steps(d: Device, buffer: &mut [u8], file: &[u8]) -> Device
     requires { ⌜ d .counts .samples ≡ 0 ⌝ }
     requires { ⌜ samples.any-bad (reading.samples-of (now file)) ≡ false ⌝ }
     requires { ⌜ reading.sample-count (now file) < 2 ^ 32 ⌝ }
-    ensures { λ r. ⌜ calls.stepped r (now (buffer .exit)) ≡ rules.steps d (now (buffer .entry)) (reading.samples-of (now (file .entry))) ⌝ }
+    ensures { λ r. ⌜ sampling.stepped r (now (buffer .exit)) ≡ rules.steps d (now (buffer .entry)) (reading.samples-of (now (file .entry))) ⌝ }
 {
     let mut e = d;
     let mut place = write_count(file);
@@ -126,8 +127,7 @@ fn steps(d: Device, buffer: &mut [u8], file: &[u8]) -> Device
             return e;
         };
         let one = [w];
-        let after = sampling::steps(e, buffer, &one);
-        e = after.device;
+        e = sampling::steps(e, buffer, &one);
         place += 1;
     }
 }

@@ -32,16 +32,16 @@ word-back (suc (suc x)) e = absurd (omega (arith, leb-true (suc (suc x)) 1 e))
 frame-back : (f : Frame) → frame-of (frame-word f) (lines-word f) (pixels-word f) ≡ f
 unfolding frame-of
 frame-back Closed = refl
-frame-back (Open s) = go (s .taken) refl
+frame-back (Open taken s) = go taken
   where
-    go : (b : Bool) → s .taken ≡ b → cond (eqb (cond b 2 1) 0) Closed (Open (record { taken = eqb (cond b 2 1) 2; lines = s .lines; pixels = s .pixels })) ≡ Open s
-    go true e = ap Open (λ i. record { taken = sym e i; lines = s .lines; pixels = s .pixels })
-    go false e = ap Open (λ i. record { taken = sym e i; lines = s .lines; pixels = s .pixels })
+    go : (b : Bool) → cond (eqb (cond b 2 1) 0) Closed (Open (eqb (cond b 2 1) 2) (record { lines = s .lines; pixels = s .pixels })) ≡ Open b s
+    go true = refl
+    go false = refl
 
 frame-fits : (f : Frame) → frame-encodes (frame-word f) (lines-word f) (pixels-word f) ≡ true
 unfolding frame-encodes
 frame-fits Closed = refl
-frame-fits (Open s) = go (s .taken)
+frame-fits (Open taken s) = go taken
   where
     go : (b : Bool) → leb (cond b 2 1) 2 && (not (eqb (cond b 2 1) 0) || (eqb (s .lines) 0 && eqb (s .pixels) 0)) ≡ true
     go true = refl

@@ -15,15 +15,15 @@ flag b = cond b 1 0
 -- The frame: 0 closed, 1 open and not taken, 2 open and taken; its lines and pixels, 0 in a closed one.
 abbrev pub frame-word : Frame → ℕ
 frame-word Closed = 0
-frame-word (Open s) = cond (s .taken) 2 1
+frame-word (Open taken s) = cond taken 2 1
 
 abbrev pub lines-word : Frame → ℕ
 lines-word Closed = 0
-lines-word (Open s) = s .lines
+lines-word (Open taken s) = s .lines
 
 abbrev pub pixels-word : Frame → ℕ
 pixels-word Closed = 0
-pixels-word (Open s) = s .pixels
+pixels-word (Open taken s) = s .pixels
 
 -- The words of a device.
 unfoldable pub image-of : Device → List ℕ
@@ -68,7 +68,7 @@ encodes w = flags-encode (getD w 5 0) (getD w 6 0) (getD w 7 0) (getD w 8 0) (ge
 
 -- The device of an image.
 unfoldable pub frame-of : ℕ → ℕ → ℕ → Frame
-frame-of frame lines pixels = cond (eqb frame 0) Closed (Open (record { taken = eqb frame 2; lines = lines; pixels = pixels }))
+frame-of frame lines pixels = cond (eqb frame 0) Closed (Open (eqb frame 2) (record { lines = lines; pixels = pixels }))
 
 unfoldable pub device-of : List ℕ → Device
 device-of w =

@@ -27,8 +27,8 @@ fn frame_word(f: Frame) -> u32
 {
     match f {
         Frame::Closed => 0,
-        Frame::Open(scan) => {
-            if scan.taken {
+        Frame::Open(taken, _) => {
+            if taken {
                 return 2;
             }
             1
@@ -41,7 +41,7 @@ fn lines_word(f: Frame) -> u32
 {
     match f {
         Frame::Closed => 0,
-        Frame::Open(scan) => scan.lines,
+        Frame::Open(_, scan) => scan.lines,
     }
 }
 
@@ -50,7 +50,7 @@ fn pixels_word(f: Frame) -> u32
 {
     match f {
         Frame::Closed => 0,
-        Frame::Open(scan) => scan.pixels,
+        Frame::Open(_, scan) => scan.pixels,
     }
 }
 
@@ -161,11 +161,7 @@ fn frame_of(frame: u32, lines: u32, pixels: u32) -> Frame
         return Frame::Closed;
     }
     let taken = frame == 2;
-    Frame::Open(Scan {
-        taken,
-        lines,
-        pixels,
-    })
+    Frame::Open(taken, Scan { lines, pixels })
 }
 
 // The device of an image.

@@ -1,6 +1,6 @@
 -- A well-formed capture state stays so when one of its parts changes: pins and syncs, registers, partial word, frame.
 -- The idea: one law for each part, by the facts that read it; the others are handed on. Assumes nothing.
-use mathlib.Core.Bool.{true, false, true≢false, false≢true}
+use mathlib.Core.Bool.{Bool, true, false, true≢false, false≢true}
 use mathlib.Core.Path.{_≡_, refl, sym, _∙_}
 use Prim.Native.Nat.{ℕ, zero, suc, _*_, _^_, _≤_, _<_}
 use native.Mathlib.Omega.{arith}
@@ -65,7 +65,7 @@ registers-ok {s = s} r on setup allowed ris ier h =
 pub none-partial : (f : Frame) (c : ℕ) → (0 < c → is-taken f ≡ true) → is-open f ≡ false → c ≡ 0
 none-partial Closed zero inside e = refl
 none-partial Closed (suc c) inside e = absurd (false≢true (inside (omega arith)))
-none-partial (Open f) c inside e = absurd (true≢false e)
+none-partial (Open taken f) c inside e = absurd (true≢false e)
 
 -- Another partial word, within its data and inside a taken frame.
 pub partial-ok : {n : ℕ} {s : Capture} (p : Partial)
@@ -88,10 +88,10 @@ partial-ok {s = s} p used short inside h =
     }
 
 -- Another place in the open frame.
-pub scan-ok : {m n : ℕ} {s : Capture} (f g : Scan) → s .frame ≡ Open f → g .taken ≡ f .taken → g .lines ≤ n → g .pixels ≤ n
-    → CaptureOk m s → CaptureOk n (with-frame (Open g) s)
+pub scan-ok : {m n : ℕ} {s : Capture} (taken : Bool) (f g : Scan) → s .frame ≡ Open taken f → g .lines ≤ n → g .pixels ≤ n
+    → CaptureOk m s → CaptureOk n (with-frame (Open taken g) s)
 unfolding with-frame unused-bits
-scan-ok f g in-f taken gl gp h =
+scan-ok taken f g in-f gl gp h =
     record {
       unused = h .unused;
       short = h .short;
@@ -99,7 +99,7 @@ scan-ok f g in-f taken gl gp h =
       ris = h .ris;
       ier = h .ier;
       idle = λ off. absurd (true≢false (rw in-f at (h .idle off .0)));
-      inside = λ pos. taken ∙ (rw in-f at (h .inside pos));
+      inside = λ pos. rw in-f at (h .inside pos);
       rate = h .rate;
       lines = gl;
       pixels = gp;

@@ -1,6 +1,6 @@
 -- Rules 2 to 8 keep a well-formed capture state, with one more allowed in the bound on lines and pixels, and a full word fits 32 bits.
 -- The idea: each rule by the cases of its tests, with the laws of the parts that it changes. Assumes nothing.
-use mathlib.Core.Bool.{true, _||_}
+use mathlib.Core.Bool.{Bool, true, _||_}
 use mathlib.Core.Option.{Option, none, some}
 use mathlib.Core.Path.{_≡_, refl, subst}
 use Prim.Native.Nat.{ℕ, _+_, _^_, _≤_, _<_}
@@ -43,15 +43,15 @@ module _ {n : ℕ} where
   grow {s} h = pins-syncs-ok (s .pins) (s .syncs) (omega arith) h
 
   -- Rule 6.
-  next-pixel-ok : {s : Capture} (f : Scan) → s .frame ≡ Open f → CaptureOk n s
-      → CaptureOk (n + 1) (with-frame (Open (next-pixel s f)) s)
+  next-pixel-ok : {s : Capture} (taken : Bool) (f : Scan) → s .frame ≡ Open taken f → CaptureOk n s
+      → CaptureOk (n + 1) (with-frame (Open taken (next-pixel s f)) s)
   unfolding next-pixel
-  next-pixel-ok {s} f in-f h =
+  next-pixel-ok {s} taken f in-f h =
       let fl : f .lines ≤ n = rw in-f at (h .lines) in
       let fp : f .pixels ≤ n = rw in-f at (h .pixels) in
-      either (λ (g : Scan). CaptureOk (n + 1) (with-frame (Open g) s)) (line-begins s f)
-      (scan-ok f _ in-f refl (omega arith) (omega arith) h)
-      (scan-ok f _ in-f refl (omega arith) (omega arith) h)
+      either (λ (g : Scan). CaptureOk (n + 1) (with-frame (Open taken g) s)) (line-begins s f)
+      (scan-ok taken f _ in-f (omega arith) (omega arith) h)
+      (scan-ok taken f _ in-f (omega arith) (omega arith) h)
 
   -- Rule 8.
   pack-ok : {s : Capture} (w : ℕ) → is-taken (s .frame) ≡ true → CaptureOk n s → CapturedOk n (pack s w)
@@ -67,11 +67,12 @@ module _ {n : ℕ} where
       (λ t. record { state = last; fits = packed-full s w bits (h .short) (ltb-false (c + 1) full t) })
 
 module _ {n : ℕ} where
-  pixel-ok : {s : Capture} (f : Scan) (w : ℕ) → s .frame ≡ Open f → CaptureOk n s → CapturedOk (n + 1) (pixel s f w)
+  pixel-ok : {s : Capture} (taken : Bool) (f : Scan) (w : ℕ) → s .frame ≡ Open taken f → CaptureOk n s
+      → CapturedOk (n + 1) (pixel s taken f w)
   unfolding pixel captured with-frame
-  pixel-ok {s} f w in-f h =
-      let next = next-pixel-ok f in-f h in
-      by-cond (CapturedOk (n + 1)) (captured s (next-pixel s f)) _ _
+  pixel-ok {s} taken f w in-f h =
+      let next = next-pixel-ok taken f in-f h in
+      by-cond (CapturedOk (n + 1)) (captured s taken (next-pixel s f)) _ _
       (λ t. pack-ok w (and-true _ _ t .0) next)
       (λ t. no-word-ok next)
 
@@ -79,11 +80,11 @@ module _ {n : ℕ} where
       → CapturedOk (n + 1) (pixel-in f s now w)
   unfolding pixel-in
   pixel-in-ok Closed now w closed h = no-word-ok (grow h)
-  pixel-in-ok (Open f) now w in-f h =
-      either (CapturedOk (n + 1)) (now .hsync || now .vsync) (no-word-ok (grow h)) (pixel-ok f w in-f h)
+  pixel-in-ok (Open taken f) now w in-f h =
+      either (CapturedOk (n + 1)) (now .hsync || now .vsync) (no-word-ok (grow h)) (pixel-ok taken f w in-f h)
 
   -- Rules 3 to 8.
-  at-edge-ok : {s : Capture} (now : Syncs) (w : ℕ) → CaptureOk n s → CapturedOk (n + 1) (at-edge s now w)
+  pub at-edge-ok : {s : Capture} (now : Syncs) (w : ℕ) → CaptureOk n s → CapturedOk (n + 1) (at-edge s now w)
   unfolding at-edge pixel-edge
   at-edge-ok now w h = pixel-in-ok _ now w refl (frame-start-ok now (frame-end-ok now (sync-flags-ok now h)))
 

@@ -38,7 +38,7 @@ frame-captured-on s = either (λ (t : Capture). on t ≡ on s) (snapshot (s .reg
 end-of-on : (f : Frame) (s : Capture) → on (end-of f s) ≡ on s
 unfolding end-of close-frame with-frame with-partial
 end-of-on Closed s = refl
-end-of-on (Open f) s = either (λ (t : Capture). on t ≡ on s) (f .taken) (frame-captured-on s) refl
+end-of-on (Open taken f) s = either (λ (t : Capture). on t ≡ on s) taken (frame-captured-on s) refl
 
 frame-end-on : (s : Capture) (now : Syncs) → on (frame-end s now) ≡ on s
 unfolding frame-end
@@ -48,21 +48,21 @@ start-of-on : (f : Frame) (now : Syncs) (s : Capture) → on (start-of f now s) 
 unfolding start-of open-frame with-rate with-frame
 start-of-on Closed now s =
     either (λ (t : Capture). on t ≡ on s) (capture (s .registers .cr) && s .syncs .vsync && not (now .vsync)) refl refl
-start-of-on (Open f) now s = refl
+start-of-on (Open taken f) now s = refl
 
 pack-on : (s : Capture) (w : ℕ) → on (pack s w .state) ≡ on s
 unfolding pack no-word with-partial
 pack-on s w =
     either (λ (c : Captured). on (c .state) ≡ on s) (ltb (s .partial .count + 1) (per-word (s .registers .cr))) refl refl
 
-pixel-on : (s : Capture) (f : Scan) (w : ℕ) → on (pixel s f w .state) ≡ on s
+pixel-on : (s : Capture) (taken : Bool) (f : Scan) (w : ℕ) → on (pixel s taken f w .state) ≡ on s
 unfolding pixel no-word with-frame
-pixel-on s f w = either (λ (c : Captured). on (c .state) ≡ on s) (captured s (next-pixel s f)) (pack-on _ w) refl
+pixel-on s taken f w = either (λ (c : Captured). on (c .state) ≡ on s) (captured s taken (next-pixel s f)) (pack-on _ w) refl
 
 pixel-in-on : (f : Frame) (s : Capture) (now : Syncs) (w : ℕ) → on (pixel-in f s now w .state) ≡ on s
 unfolding pixel-in no-word
 pixel-in-on Closed s now w = refl
-pixel-in-on (Open f) s now w = either (λ (c : Captured). on (c .state) ≡ on s) (now .hsync || now .vsync) refl (pixel-on s f w)
+pixel-in-on (Open taken f) s now w = either (λ (c : Captured). on (c .state) ≡ on s) (now .hsync || now .vsync) refl (pixel-on s taken f w)
 
 at-edge-on : (s : Capture) (now : Syncs) (w : ℕ) → on (at-edge s now w .state) ≡ on s
 unfolding at-edge pixel-edge frame-start

@@ -54,7 +54,7 @@ module _ {n : ℕ} where
   end-of-ok : {s : Capture} (f : Frame) → CaptureOk n s → CaptureOk n (end-of f s)
   unfolding end-of frame-captured
   end-of-ok Closed h = h
-  end-of-ok (Open f) h = close-frame-ok (either (CaptureOk n) (f .taken) (cleared-ok 0 (omega arith) h) h)
+  end-of-ok (Open taken f) h = close-frame-ok (either (CaptureOk n) taken (cleared-ok 0 (omega arith) h) h)
 
   pub frame-end-ok : {s : Capture} (now : Syncs) → CaptureOk n s → CaptureOk n (frame-end s now)
   unfolding frame-end
@@ -86,7 +86,7 @@ module _ {n : ℕ} where
       by-cond (CaptureOk n) (capture (s .registers .cr) && s .syncs .vsync && not (now .vsync)) _ _
       (λ t. open-frame-ok closed (and-true _ _ (and-true _ _ t .0) .0) h)
       (λ t. h)
-  start-of-ok (Open f) now in-f h = h
+  start-of-ok (Open taken f) now in-f h = h
 
   pub frame-start-ok : {s : Capture} (now : Syncs) → CaptureOk n s → CaptureOk n (frame-start s now)
   unfolding frame-start

@@ -27,7 +27,7 @@ pub fresh-slots : Slots fresh
 unfolding fresh
 fresh-slots = refl
 
-grant-slots : (d : Device) (buffer : List ℕ) (w : ℕ) → Slots d → Slots (grant d buffer w .device)
+pub grant-slots : (d : Device) (buffer : List ℕ) (w : ℕ) → Slots d → Slots (grant d buffer w .device)
 unfolding grant landed pop
 grant-slots d buffer w h =
     either (λ (g : Granted). Slots (g .device)) (lands d buffer w) (simp (length-append, length-drop) (omega arith)) h

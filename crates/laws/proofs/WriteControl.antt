@@ -51,7 +51,7 @@ rest-ok s allowed ris ier r =
 
 closed-frame : (f : Frame) → is-open f ≡ false → f ≡ Closed
 closed-frame Closed e = refl
-closed-frame (Open f) e = absurd (true≢false e)
+closed-frame (Open taken f) e = absurd (true≢false e)
 
 -- A well-formed state with ENABLE 0 is at rest.
 idle-rest : {n : ℕ} (s : Capture) → CaptureOk n s → enable (s .registers .cr) ≡ false → Rest s

@@ -1,4 +1,4 @@
--- What a test joined by `||` tells where it is false, and one joined by `&&` where it is true. Assumes nothing.
+-- What a test joined by `||` tells where it is false, and one joined by `&&` where it is true; and `||` with a constant. Assumes nothing.
 use mathlib.Core.Bool.{Bool, true, false, _&&_, _||_, true≢false, false≢true}
 use mathlib.Core.Path.{_≡_, refl}
 
@@ -9,3 +9,11 @@ or-false false b e = (refl, e)
 pub and-true : (a b : Bool) → a && b ≡ true → (a ≡ true) × (b ≡ true)
 and-true true b e = (refl, e)
 and-true false b e = absurd (false≢true e)
+
+pub or-unit : (b : Bool) → b || false ≡ b
+or-unit true = refl
+or-unit false = refl
+
+pub or-true : (b : Bool) → b || true ≡ true
+or-true true = refl
+or-true false = refl

@@ -14,12 +14,13 @@ pub fn bad_sample(w: u32) -> bool
 pub fn any_bad(list: &[u32]) -> bool
     ensures { λ r. ⌜ r ≡ samples.any-bad (now (list .entry)) ⌝ }
 {
+    let mut any = false;
     let mut i = 0;
     while i < list.len() {
         if bad_sample(list[i]) {
-            return true;
+            any = true;
         }
         i += 1;
     }
-    false
+    any
 }

@@ -1,4 +1,4 @@
--- More of what the value of a test joined by `||` or `&&` tells (the first two laws are in `refusals`), and a definition by `cond` taken apart. Assumes nothing.
+-- More of what the value of a test joined by `||` or `&&` tells (the first laws are in `refusals`), and a definition by `cond` taken apart. Assumes nothing.
 use mathlib.Core.Bool.{Bool, true, false, cond, not, _&&_, _||_, true≢false, false≢true}
 use mathlib.Core.List.{List, [], _∷_}
 use mathlib.Core.Path.{_≡_, refl, sym, _∙_}
@@ -10,14 +10,6 @@ use Rattle.rules.specs.WellFormed.{any}
 pub both-false : (a b : Bool) → a ≡ false → b ≡ false → a || b ≡ false
 both-false true b e f = absurd (true≢false e)
 both-false false b e f = f
-
-pub or-unit : (b : Bool) → b || false ≡ b
-or-unit true = refl
-or-unit false = refl
-
-pub or-true : (b : Bool) → b || true ≡ true
-or-true true = refl
-or-true false = refl
 
 -- `a && b` is false: from a, not b.
 pub and-false : (a b : Bool) → a && b ≡ false → a ≡ true → b ≡ false

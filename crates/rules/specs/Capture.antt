@@ -69,7 +69,7 @@ frame-captured s = cond (snapshot (s .registers .cr)) (clear-capture (raise 0 s)
 
 unfoldable pub end-of : Frame → Capture → Capture
 end-of Closed s = s
-end-of (Open f) s = close-frame (cond (f .taken) (frame-captured s) s)
+end-of (Open taken f) s = close-frame (cond taken (frame-captured s) s)
 
 -- Rule 4 (004, 32.3.6): an open frame closes when VSYNC blanks; a partial word is dropped.
 unfoldable pub frame-end : Capture → Syncs → Capture
@@ -85,11 +85,11 @@ next-rate s = cond (snapshot (s .registers .cr)) (s .rate) ((s .rate + 1) % rate
 unfoldable pub open-frame : Capture → Capture
 open-frame s =
     with-rate (next-rate s)
-    (with-frame (Open (record { taken = snapshot (s .registers .cr) || eqb (s .rate) 0; lines = 0; pixels = 0 })) s)
+    (with-frame (Open (snapshot (s .registers .cr) || eqb (s .rate) 0) (record { lines = 0; pixels = 0 })) s)
 
 unfoldable pub start-of : Frame → Syncs → Capture → Capture
 start-of Closed now s = cond (capture (s .registers .cr) && s .syncs .vsync && not (now .vsync)) (open-frame s) s
-start-of (Open f) now s = s
+start-of (Open taken f) now s = s
 
 -- Rule 5 (004, 32.3.6, 32.3.7): with no frame open and CAPTURE 1, a frame starts where VSYNC blanked at the last working edge and does not now.
 unfoldable pub frame-start : Capture → Syncs → Capture
@@ -102,8 +102,8 @@ line-begins s f = s .syncs .hsync || eqb (f .lines) 0
 unfoldable pub next-pixel : Capture → Scan → Scan
 next-pixel s f =
     cond (line-begins s f)
-    (record { taken = f .taken; lines = f .lines + 1; pixels = 1 })
-    (record { taken = f .taken; lines = f .lines; pixels = f .pixels + 1 })
+    (record { lines = f .lines + 1; pixels = 1 })
+    (record { lines = f .lines; pixels = f .pixels + 1 })
 
 -- Rule 7 (004, 32.3.8, 32.5.9, 32.5.10): from a first one, that one and as many more as the register says.
 unfoldable pub within : ℕ → ℕ → ℕ → Bool
@@ -115,8 +115,8 @@ in-window s f =
     within (vst (s .registers .cwstrt)) (vline (s .registers .cwsize)) (f .lines - 1) &&
     within (hoffcnt (s .registers .cwstrt)) (capcnt (s .registers .cwsize)) (f .pixels - 1)
 
-unfoldable pub captured : Capture → Scan → Bool
-captured s f = f .taken && (not (crop (s .registers .cr)) || in-window s f)
+unfoldable pub captured : Capture → Bool → Scan → Bool
+captured s taken f = taken && (not (crop (s .registers .cr)) || in-window s f)
 
 -- Rule 8 (004, tables 262 to 265): EDM 0, 1, 2, 3 keep 8, 10, 12, 14 data bits.
 unfoldable pub width : ℕ → ℕ
@@ -141,14 +141,16 @@ pack s w =
     (no-word (with-partial (record { count = s .partial .count + 1; bits = packed-bits s w }) s))
     (record { state = with-partial no-partial s; word = some (packed-bits s w) })
 
--- Rules 6 to 8 at a pixel of the open frame f: its place, whether it is captured, and the packing.
-unfoldable pub pixel : Capture → Scan → ℕ → Captured
-pixel s f w =
-    cond (captured s (next-pixel s f)) (pack (with-frame (Open (next-pixel s f)) s) w) (no-word (with-frame (Open (next-pixel s f)) s))
+-- Rules 6 to 8 at a pixel of an open frame, taken or not: its place, whether it is captured, and the packing.
+unfoldable pub pixel : Capture → Bool → Scan → ℕ → Captured
+pixel s taken f w =
+    cond (captured s taken (next-pixel s f))
+    (pack (with-frame (Open taken (next-pixel s f)) s) w)
+    (no-word (with-frame (Open taken (next-pixel s f)) s))
 
 unfoldable pub pixel-in : Frame → Capture → Syncs → ℕ → Captured
 pixel-in Closed s now w = no-word s
-pixel-in (Open f) s now w = cond (now .hsync || now .vsync) (no-word s) (pixel s f w)
+pixel-in (Open taken f) s now w = cond (now .hsync || now .vsync) (no-word s) (pixel s taken f w)
 
 -- Rule 6: with both syncs not blanking in an open frame, the edge carries a pixel.
 unfoldable pub pixel-edge : Capture → Syncs → ℕ → Captured

@@ -8,7 +8,7 @@ use lib.ListN.{length, take, drop}
 use Rattle.rules.specs.declared.Device.{Device}
 use Rattle.rules.specs.State.{with-capture}
 use Rattle.rules.specs.Capture.{capture-sample}
-use Rattle.rules.specs.Queue.{grant, Packed, nothing, Completed, complete}
+use Rattle.rules.specs.Queue.{grant, Packed, Completed, complete}
 use Rattle.refusals.specs.Refusals.{_⇒_, first, Answer, answer}
 use Rattle.refusals.specs.Samples.{any-bad}
 use Rattle.rules.specs.WellFormed.{malformed}
@@ -47,14 +47,6 @@ step d buffer w =
     let g = grant (count-sample d) buffer w in
     let c = after-grant (g .device) w in
     record { device = c .device; buffer = g .buffer; landing = g .landing; packed = c .packed }
-
--- Some samples more, with the answers of the last.
-unfoldable pub stepped : Stepped → List ℕ → Stepped
-stepped s [] = s
-stepped s (w ∷ ws) = stepped (step (s .device) (s .buffer) w) ws
-
-abbrev pub unstepped : Device → List ℕ → Stepped
-unstepped d buffer = record { device = d; buffer = buffer; landing = none; packed = nothing }
 
 -- Device and frame buffer after some samples.
 pub record Ran : Type 0 where

@@ -28,19 +28,19 @@ all-zero (x ∷ xs) = eqb x 0 && all-zero xs
 -- Of a frame: whether it is open, whether it is open and taken, its lines begun and the pixels of the last.
 abbrev pub is-open : Frame → Bool
 is-open Closed = false
-is-open (Open f) = true
+is-open (Open taken f) = true
 
 abbrev pub is-taken : Frame → Bool
 is-taken Closed = false
-is-taken (Open f) = f .taken
+is-taken (Open taken f) = taken
 
 abbrev pub lines : Frame → ℕ
 lines Closed = 0
-lines (Open f) = f .lines
+lines (Open taken f) = f .lines
 
 abbrev pub pixels : Frame → ℕ
 pixels Closed = 0
-pixels (Open f) = f .pixels
+pixels (Open taken f) = f .pixels
 
 -- More than four held; an unused FIFO slot not 0.
 unfoldable pub bad-fifo : Fifo → Bool

@@ -1,5 +1,6 @@
 // The state of the camera interface, as plain data. What the calls make of it is defined in specs/, in the paper's order and words;
 // proofs/ has the laws of those definitions and the bench sheet's cases. There is no code here: the functions stand in the crates above.
+// The order of the fields means nothing to the rules; it decides what the compiler keeps in registers (docs/SPEED.md).
 
 // The registers that hold a value of their own. SR, MIS and ICR have none.
 pub struct Registers {
@@ -23,16 +24,16 @@ pub struct Syncs {
     pub vsync: bool,
 }
 
-// An open frame: whether it is one of those taken, the lines begun in it, and the pixels of the last line.
+// The place in an open frame: the lines begun in it, and the pixels of the last line.
 pub struct Scan {
-    pub taken: bool,
     pub lines: u32,
     pub pixels: u32,
 }
 
+// Closed, or open: whether the frame is one of those taken, and the place in it.
 pub enum Frame {
     Closed,
-    Open(Scan),
+    Open(bool, Scan),
 }
 
 // The partial word: how many data it has, and their bits. Both are 0 where there is none.
@@ -45,8 +46,8 @@ pub struct Partial {
 pub struct Capture {
     pub registers: Registers,
     pub pins: Pins,
-    pub syncs: Syncs,
     pub frame: Frame,
+    pub syncs: Syncs,
     pub rate: u32,
     pub partial: Partial,
 }
@@ -68,7 +69,7 @@ pub struct Counts {
 // The device. `place` is the number of the next word to land, since the last re-arming.
 pub struct Device {
     pub capture: Capture,
+    pub counts: Counts,
     pub fifo: Fifo,
     pub place: u32,
-    pub counts: Counts,
 }

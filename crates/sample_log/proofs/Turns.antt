@@ -11,6 +11,7 @@ use lib.WfN.{Nat·lt-wfRel}
 use Rattle.rules.specs.declared.Device.{Device}
 use Rattle.rules.specs.Run.{SampleResult, sample}
 use Rattle.device.specs.Answers as answers
+use Rattle.sampling.specs.Answers.{stepped}
 use Rattle.device.specs.declared.Reply.{Reply}
 use Rattle.lent.proofs.Behind.{IsDevice}
 use Rattle.sample_log.specs.Samples.{trace-t, samples}
@@ -51,6 +52,6 @@ next t less d is r ys long w w-is e = record {
   same = ap (λ (s : SampleResult). samples (s .device) (s .memory) (drop (t .i + 1) trace-t)) e ∙ one-more (t .device) (t .memory) (t .i) w less w-is ∙ t .same;
 }
 
-pub last : {d₀ : Device} {ms : List ℕ} (t : Turn d₀ ms) → 8 ≤ t .i → answers.stepped (t .device) (t .memory) ≡ samples d₀ ms trace-t
+pub last : {d₀ : Device} {ms : List ℕ} (t : Turn d₀ ms) → 8 ≤ t .i → stepped (t .device) (t .memory) ≡ samples d₀ ms trace-t
 unfolding samples
 last t over = ap (samples (t .device) (t .memory)) (sym (drop-of-length-le trace-t over)) ∙ t .same

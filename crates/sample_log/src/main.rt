@@ -5,7 +5,7 @@ ghost use Prim.Native.Nat.{_<_};
 ghost use lib.ListN.{getD};
 ghost use Rattle.rules.specs.RegisterCalls as calls;
 ghost use Rattle.rules.specs.State as state;
-ghost use Rattle.device.specs.Answers as answers;
+ghost use Rattle.sampling.specs.Answers as answers;
 ghost use Rattle.sample_log.specs.Samples.{trace-t, samples};
 use device::Outcome;
 use device::Reading;

@@ -12,10 +12,11 @@ use lib.Seq.{drop-cons}
 use Rattle.rules.specs.declared.Device.{Device}
 use Rattle.rules.specs.State.{depth, with-capture}
 use Rattle.rules.specs.Queue.{lands, landed, Granted, grant, discard, count-word, hold, overrun, Completed, full-word, complete}
-use Rattle.rules.specs.Run.{count-sample, after-grant, Stepped, step, stepped, Ran, steps}
+use Rattle.rules.specs.Run.{count-sample, after-grant, step, Ran, steps}
 use Rattle.rules.proofs.Booleans.{either}
 use Rattle.rules.proofs.WellFormed.{WellFormed}
 use Rattle.laws.proofs.KeepsQueue.{step-keeps}
+use Rattle.sampling.specs.Answers.{stepped}
 
 -- A sample counts one sample.
 grant-samples : (d : Device) (b : List ℕ) (w : ℕ) → grant d b w .device .counts .samples ≡ d .counts .samples
@@ -43,10 +44,12 @@ pub starting : (buffer samples : List ℕ) (d : Device) → WellFormed d → Goi
 starting buffer samples d well = record { same = refl; well = well; count = omega arith; within = omega arith; long = refl }
 
 module _ {buffer₀ samples : List ℕ} {d₀ : Device} {buffer : List ℕ} {d : Device} {i : ℕ} (g : Going buffer₀ samples d₀ buffer d i) where
-  pub going-on : (buffer′ : List ℕ) (d′ : Device) → i < length samples → d′ ≡ step d buffer (getD samples i 0) .device
-      → buffer′ ≡ step d buffer (getD samples i 0) .buffer → length buffer′ ≡ length buffer → Going buffer₀ samples d₀ buffer′ d′ (i + 1)
+  pub going-on : (buffer′ : List ℕ) (d′ : Device) → i < length samples → stepped d′ buffer′ ≡ steps d buffer (getD samples i 0 ∷ [])
+      → length buffer′ ≡ length buffer → Going buffer₀ samples d₀ buffer′ d′ (i + 1)
   unfolding steps
-  going-on buffer′ d′ inside ed eb el =
+  going-on buffer′ d′ inside e el =
+      let ed : d′ ≡ step d buffer (getD samples i 0) .device = ap (λ (x : Ran). x .device) e in
+      let eb : buffer′ ≡ step d buffer (getD samples i 0) .buffer = ap (λ (x : Ran). x .buffer) e in
       record {
         same = rw (ed, eb, add-one) (rw (drop-cons samples i 0 inside) at (g .same));
         well = rw ed (step-keeps d buffer (getD samples i 0) (g .well));
@@ -55,25 +58,6 @@ module _ {buffer₀ samples : List ℕ} {d₀ : Device} {buffer : List ℕ} {d :
         long = el ∙ g .long;
       }
 
-  pub going-end : length samples ≤ i → steps d₀ buffer₀ samples ≡ record { device = d; buffer = buffer }
+  pub going-end : length samples ≤ i → steps d₀ buffer₀ samples ≡ stepped d buffer
   unfolding steps
   going-end past = sym (g .same) ∙ ap (λ (ws : List ℕ). steps d buffer ws) (drop-of-length-le samples past)
-
--- With the answers of the last sample forgotten, it is the same run.
-abbrev pub ran-of : Stepped → Ran
-ran-of s = record { device = s .device; buffer = s .buffer }
-
-pub forget : (s : Stepped) (ws : List ℕ) → ran-of (stepped s ws) ≡ steps (s .device) (s .buffer) ws
-unfolding stepped steps
-forget s [] = refl
-forget s (w ∷ ws) = forget (step (s .device) (s .buffer) w) ws
-
--- One step takes the head of what is left, and at the end nothing is left.
-pub stepped-on : (s s₀ : Stepped) (samples : List ℕ) (i : ℕ) (s′ : Stepped) → i < length samples → stepped s (drop i samples) ≡ stepped s₀ samples
-    → s′ ≡ step (s .device) (s .buffer) (getD samples i 0) → stepped s′ (drop (i + 1) samples) ≡ stepped s₀ samples
-unfolding stepped
-stepped-on s s₀ samples i s′ inside same e = rw (e, add-one) (rw (drop-cons samples i 0 inside) at same)
-
-pub stepped-end : (s s₀ : Stepped) (samples : List ℕ) (i : ℕ) → length samples ≤ i → stepped s (drop i samples) ≡ stepped s₀ samples → s ≡ stepped s₀ samples
-unfolding stepped
-stepped-end s s₀ samples i past same = rw (drop-of-length-le samples past) at same

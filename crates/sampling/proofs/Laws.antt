@@ -6,7 +6,7 @@ use mathlib.Core.Path.{_≡_, refl}
 use Prim.Native.Nat.{ℕ, _+_, _*_, _≤_, _<_}
 use native.Mathlib.Omega.{arith}
 use lib.Dec.{ltb, leb}
-use lib.ListN.{length, getD, drop, drop-of-length-le}
+use lib.ListN.{length, set, getD, drop, drop-of-length-le}
 use lib.Seq.{drop-cons}
 use borrow.Author.Tests.{ltb-true, leb-true}
 use Rattle.registers.specs.Control.{enable}
@@ -29,6 +29,27 @@ moved-down xs e =
     let three : 3 < length xs = omega arith in
     let all : length xs ≤ 4 = omega arith in
     rw (drop-cons xs 1 0 one, drop-cons xs 2 0 two, drop-cons xs 3 0 three, drop-of-length-le xs all)
+
+-- Four slots, one of them changed.
+four : (P : List ℕ → Type 0) → ((x y z u : ℕ) → P (x ∷ y ∷ z ∷ u ∷ [])) → (xs : List ℕ) → length xs ≡ 4 → P xs
+four P each [] e = absurd (omega arith)
+four P each (x ∷ []) e = absurd (omega arith)
+four P each (x ∷ y ∷ []) e = absurd (omega arith)
+four P each (x ∷ y ∷ z ∷ []) e = absurd (omega arith)
+four P each (x ∷ y ∷ z ∷ u ∷ []) e = each x y z u
+four P each (x ∷ y ∷ z ∷ u ∷ t ∷ xs) e = absurd (omega arith)
+
+pub set-first : (v : ℕ) (xs : List ℕ) → length xs ≡ 4 → v ∷ getD xs 1 0 ∷ getD xs 2 0 ∷ getD xs 3 0 ∷ [] ≡ set xs 0 v
+set-first v = four (λ xs. v ∷ getD xs 1 0 ∷ getD xs 2 0 ∷ getD xs 3 0 ∷ [] ≡ set xs 0 v) (λ x y z u. refl)
+
+pub set-second : (v : ℕ) (xs : List ℕ) → length xs ≡ 4 → getD xs 0 0 ∷ v ∷ getD xs 2 0 ∷ getD xs 3 0 ∷ [] ≡ set xs 1 v
+set-second v = four (λ xs. getD xs 0 0 ∷ v ∷ getD xs 2 0 ∷ getD xs 3 0 ∷ [] ≡ set xs 1 v) (λ x y z u. refl)
+
+pub set-third : (v : ℕ) (xs : List ℕ) → length xs ≡ 4 → getD xs 0 0 ∷ getD xs 1 0 ∷ v ∷ getD xs 3 0 ∷ [] ≡ set xs 2 v
+set-third v = four (λ xs. getD xs 0 0 ∷ getD xs 1 0 ∷ v ∷ getD xs 3 0 ∷ [] ≡ set xs 2 v) (λ x y z u. refl)
+
+pub set-fourth : (v : ℕ) (xs : List ℕ) → length xs ≡ 4 → getD xs 0 0 ∷ getD xs 1 0 ∷ getD xs 2 0 ∷ v ∷ [] ≡ set xs 3 v
+set-fourth v = four (λ xs. getD xs 0 0 ∷ getD xs 1 0 ∷ getD xs 2 0 ∷ v ∷ [] ≡ set xs 3 v) (λ x y z u. refl)
 
 -- A landing: a word is held, and its bytes exist.
 pub lands-held : (d : Device) (b : List ℕ) (w : ℕ) → lands d b w ≡ true → (0 < d .fifo .held) × (4 * d .place + 4 ≤ length b)

@@ -1,2 +1,4 @@
+pub mod Edges
 pub mod Going
 pub mod Laws
+pub mod Told

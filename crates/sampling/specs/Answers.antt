@@ -2,15 +2,13 @@
 use mathlib.Core.List.{List}
 use mathlib.Core.Option.{Option, none, some}
 use Prim.Native.Nat.{ℕ}
-use Rattle.rules.specs.Queue as rules
-use Rattle.rules.specs.Run as run
+use Rattle.rules.specs.declared.Device.{Device}
+use Rattle.rules.specs.Queue.{Packed, nothing, completed, lost}
+use Rattle.rules.specs.Run.{Ran}
 use Rattle.sampling.specs.declared.Landing.{Landing}
 use Rattle.sampling.specs.declared.Landing.the-variants.{Nowhere, At}
 use Rattle.sampling.specs.declared.Packing.{Packing}
 use Rattle.sampling.specs.declared.Packing.the-variants.{Nothing, Completed, Lost}
-use Rattle.sampling.specs.declared.Granted.{Granted}
-use Rattle.sampling.specs.declared.Pushed.{Pushed}
-use Rattle.sampling.specs.declared.Stepped.{Stepped}
 
 -- The byte at which a word landed, if one did.
 abbrev pub landing : Landing → Option ℕ
@@ -18,17 +16,11 @@ landing Nowhere = none
 landing (At byte) = some byte
 
 -- No word was completed, one was, with its value, or one was lost.
-abbrev pub packing : Packing → rules.Packed
-packing Nothing = rules.nothing
-packing (Completed v) = rules.completed v
-packing Lost = rules.lost
+abbrev pub packing : Packing → Packed
+packing Nothing = nothing
+packing (Completed v) = completed v
+packing Lost = lost
 
--- With the frame buffer that a call leaves.
-abbrev pub granted : Granted → List ℕ → rules.Granted
-granted g buffer = record { device = g .device; buffer = buffer; landing = landing (g .landing) }
-
-abbrev pub pushed : Pushed → rules.Completed
-pushed p = record { device = p .device; packed = packing (p .packing) }
-
-abbrev pub stepped : Stepped → List ℕ → run.Stepped
-stepped s buffer = record { device = s .device; buffer = buffer; landing = landing (s .landing); packed = packing (s .packing) }
+-- A device with the frame buffer that some samples leave.
+abbrev pub stepped : Device → List ℕ → Ran
+stepped d buffer = record { device = d; buffer = buffer }

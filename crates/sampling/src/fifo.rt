@@ -2,7 +2,7 @@
 ghost use mathlib.Core.Path.{_≡_};
 ghost use Prim.Native.Nat.{_+_, _<_, _^_};
 ghost use mathlib.Core.List.{[], _∷_, _++_};
-ghost use lib.ListN.{drop, getD};
+ghost use lib.ListN.{drop, set, getD};
 ghost use Rattle.rules.specs.State as state;
 ghost use Rattle.rules.specs.Queue as rules;
 use rules::Device;
@@ -34,14 +34,30 @@ pub fn pop(f: Fifo) -> Fifo
     Fifo { slots, held }
 }
 
+// The slots with one of them changed, each in an arm of its own: an index would keep them in memory.
+fn with_slot(slots: [u32; 4], at: u32, v: u32) -> [u32; 4]
+    requires { ⌜ at < 4 ⌝ }
+    ensures { λ r. ⌜ r ≡ set slots at v ⌝ }
+{
+    if at == 0 {
+        return [v, slots[1], slots[2], slots[3]];
+    }
+    if at == 1 {
+        return [slots[0], v, slots[2], slots[3]];
+    }
+    if at == 2 {
+        return [slots[0], slots[1], v, slots[3]];
+    }
+    [slots[0], slots[1], slots[2], v]
+}
+
 // A word is taken in behind the others.
 pub fn push(v: u32, f: Fifo) -> Fifo
     requires { ⌜ f .held < 4 ⌝ }
     ensures { λ r. ⌜ r ≡ rules.push v f ⌝ }
 {
-    let mut slots = f.slots;
-    let at = f.held as usize;
-    slots[at] = v;
+    let before = f.slots;
+    let slots = with_slot(before, f.held, v);
     let held = f.held + 1;
     Fifo { slots, held }
 }

@@ -6,8 +6,7 @@ ghost use lib.ListN.{length, take, drop};
 ghost use Rattle.rules.specs.Queue as rules;
 ghost use Rattle.rules.proofs.WellFormed.{WellFormed};
 ghost use Rattle.sampling.specs.Answers as answers;
-use crate::Granted;
-use crate::Landing;
+ghost use Rattle.sampling.specs.Parts as parts;
 use crate::fifo::oldest;
 use crate::fifo::pop;
 use capture::syncs::bus_grant;
@@ -64,23 +63,16 @@ fn landed(mut d: Device) -> Device
 }
 
 // Rule 1: the oldest held word goes to the next place.
-pub fn grant(d: Device, buffer: &mut [u8], w: u32) -> Granted
+pub fn grant(d: Device, buffer: &mut [u8], w: u32) -> Device
     requires { ⌜ WellFormed d ⌝ }
     requires { ⌜ d .counts .samples < 2 ^ 32 ⌝ }
-    ensures { λ r. ⌜ answers.granted r (now (buffer .exit)) ≡ rules.grant d (now (buffer .entry)) w ⌝ }
+    ensures { λ r. ⌜ answers.stepped r (now (buffer .exit)) ≡ parts.granted (rules.grant d (now (buffer .entry)) w) ⌝ }
 {
     if lands(d, buffer, w) {
         let f = d.fifo;
         let at = 4 * (d.place as usize);
         store(buffer, at, oldest(f));
-        let device = landed(d);
-        return Granted {
-            device,
-            landing: Landing::At(at),
-        };
+        return landed(d);
     }
-    Granted {
-        device: d,
-        landing: Landing::Nowhere,
-    }
+    d
 }

@@ -2,15 +2,24 @@
 // are for the crates `device` and `files`, which call them on well-formed devices; each states its result as an equation with its definition.
 ghost use mathlib.Core.Path.{_≡_};
 ghost use Prim.Native.Nat.{_+_, _<_, _^_};
+ghost use mathlib.Core.List.{[], _∷_};
 ghost use lib.ListN.{length};
 ghost use Rattle.rules.specs.Run as rules;
 ghost use Rattle.rules.proofs.WellFormed.{CaptureOk, WellFormed};
 ghost use Rattle.sampling.specs.Answers as answers;
+ghost use Rattle.sampling.specs.Parts as parts;
 
+pub mod answers;
 pub mod fifo;
 pub mod grant;
 pub mod overrun;
 
+use crate::grant::grant;
+use capture::syncs::bus_grant;
+use capture::syncs::clock_pin;
+use capture::syncs::hsync_pin;
+use capture::syncs::vsync_pin;
+use capture::syncs::working_edge;
 use rules::Device;
 
 // Where a word landed: at a byte, if one did.
@@ -26,25 +35,6 @@ pub enum Packing {
     Lost,
 }
 
-// After rule 1.
-pub struct Granted {
-    pub device: Device,
-    pub landing: Landing,
-}
-
-// After rule 9.
-pub struct Pushed {
-    pub device: Device,
-    pub packing: Packing,
-}
-
-// After a sample, with its two answers.
-pub struct Stepped {
-    pub device: Device,
-    pub landing: Landing,
-    pub packing: Packing,
-}
-
 // One more sample.
 fn count_sample(mut d: Device) -> Device
     requires { ⌜ d .counts .samples + 1 < 2 ^ 32 ⌝ }
@@ -55,14 +45,14 @@ fn count_sample(mut d: Device) -> Device
     d
 }
 
-// Rules 2 to 9 after the grant.
-fn after_grant(d: Device, w: u32) -> Pushed
+// Rules 3 to 9 at a working edge, but for the sample's levels.
+fn at_edge(d: Device, w: u32) -> Device
     requires { ⌜ CaptureOk 4294967294 (d .capture) ⌝ }
     requires { ⌜ (d .counts .completed + 1 < 2 ^ 32) × (d .counts .discarded + d .fifo .held + 1 < 2 ^ 32) ⌝ }
-    ensures { λ r. ⌜ answers.pushed r ≡ rules.after-grant d w ⌝ }
+    ensures { λ r. ⌜ r ≡ parts.at-edge d w ⌝ }
 {
     let s = d.capture;
-    let c = capture::capture_sample(s, w);
+    let c = capture::edge(s, w);
     let state = c.state;
     let word = c.word;
     let mut e = d;
@@ -71,41 +61,39 @@ fn after_grant(d: Device, w: u32) -> Pushed
 }
 
 // The nine rules in order.
-fn step(d: Device, buffer: &mut [u8], w: u32) -> Stepped
+fn step(d: Device, buffer: &mut [u8], w: u32) -> Device
     requires { ⌜ WellFormed d ⌝ }
     requires { ⌜ d .counts .samples + 1 < 2 ^ 32 ⌝ }
-    ensures { λ r. ⌜ answers.stepped r (now (buffer .exit)) ≡ rules.step d (now (buffer .entry)) w ⌝ }
+    ensures { λ r. ⌜ answers.stepped r (now (buffer .exit)) ≡ rules.steps d (now (buffer .entry)) (w ∷ []) ⌝ }
 {
-    let g = grant::grant(count_sample(d), buffer, w);
-    let landing = g.landing;
-    let e = g.device;
-    let p = after_grant(e, w);
-    let packing = p.packing;
-    let device = p.device;
-    Stepped {
-        device,
-        landing,
-        packing,
+    let mut e = count_sample(d);
+    if bus_grant(w) {
+        e = grant(e, buffer, w);
     }
+    if working_edge(e.capture, w) {
+        e = at_edge(e, w);
+    }
+    let hsync = hsync_pin(w);
+    let vsync = vsync_pin(w);
+    let clock = clock_pin(w);
+    e.capture.pins.hsync = hsync;
+    e.capture.pins.vsync = vsync;
+    e.capture.pins.clock = clock;
+    e
 }
 
-// The samples in order, with the answers of the last. Its loop is the one place where `step` is called, so that the compiler makes the rules part of it.
-pub fn steps(d: Device, buffer: &mut [u8], samples: &[u32]) -> Stepped
+// The samples in order. Its loop is the one place where `step` is called, so that the compiler makes the rules part of it.
+pub fn steps(d: Device, buffer: &mut [u8], samples: &[u32]) -> Device
     requires { ⌜ WellFormed d ⌝ }
     requires { ⌜ d .counts .samples + length (now samples) < 2 ^ 32 ⌝ }
-    ensures { λ r. ⌜ answers.stepped r (now (buffer .exit)) ≡ rules.stepped (rules.unstepped d (now (buffer .entry))) (now (samples .entry)) ⌝ }
+    ensures { λ r. ⌜ answers.stepped r (now (buffer .exit)) ≡ rules.steps d (now (buffer .entry)) (now (samples .entry)) ⌝ }
 {
-    let mut last = Stepped {
-        device: d,
-        landing: Landing::Nowhere,
-        packing: Packing::Nothing,
-    };
+    let mut e = d;
     let mut i = 0;
     while i < samples.len() {
         let w = samples[i];
-        let e = last.device;
-        last = step(e, buffer, w);
+        e = step(e, buffer, w);
         i += 1;
     }
-    last
+    e
 }

@@ -2,11 +2,7 @@
 ghost use mathlib.Core.Path.{_≡_};
 ghost use Prim.Native.Nat.{_+_, _≤_, _<_, _^_};
 ghost use Rattle.rules.specs.Queue as rules;
-ghost use Rattle.rules.proofs.WellFormed.{WellFormed};
 ghost use Rattle.capture.specs.Answers.{word as meant};
-ghost use Rattle.sampling.specs.Answers as answers;
-use crate::Packing;
-use crate::Pushed;
 use crate::fifo::discard;
 use crate::fifo::push;
 use capture::Word;
@@ -62,35 +58,24 @@ fn overrun(d: Device) -> Device
 }
 
 // Rule 9: with fewer than four held a full word is held, with four there is an overrun.
-fn full_word(v: u32, d: Device) -> Pushed
+fn full_word(v: u32, d: Device) -> Device
     requires { ⌜ (d .capture .registers .ris ≤ 31) × (d .counts .completed + 1 < 2 ^ 32) × (d .counts .discarded + d .fifo .held + 1 < 2 ^ 32) ⌝ }
-    ensures { λ r. ⌜ answers.pushed r ≡ rules.full-word v d ⌝ }
+    ensures { λ r. ⌜ r ≡ rules.full-word v d .device ⌝ }
 {
     let counted = count_word(d);
     if d.fifo.held < 4 {
-        let device = hold(v, counted);
-        return Pushed {
-            device,
-            packing: Packing::Completed(v),
-        };
+        return hold(v, counted);
     }
-    let device = overrun(counted);
-    Pushed {
-        device,
-        packing: Packing::Lost,
-    }
+    overrun(counted)
 }
 
 // Rule 9, where there is a word.
-pub fn complete(word: Word, d: Device) -> Pushed
+pub fn complete(word: Word, d: Device) -> Device
     requires { ⌜ (d .capture .registers .ris ≤ 31) × (d .counts .completed + 1 < 2 ^ 32) × (d .counts .discarded + d .fifo .held + 1 < 2 ^ 32) ⌝ }
-    ensures { λ r. ⌜ answers.pushed r ≡ rules.complete (meant word) d ⌝ }
+    ensures { λ r. ⌜ r ≡ rules.complete (meant word) d .device ⌝ }
 {
     match word {
-        Word::Nothing => Pushed {
-            device: d,
-            packing: Packing::Nothing,
-        },
+        Word::Nothing => d,
         Word::Full(v) => full_word(v, d),
     }
 }

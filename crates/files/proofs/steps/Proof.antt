@@ -4,7 +4,6 @@ use Prim.Native.Nat.{_+_, _-_}
 use borrow.Author.Needs.{needs}
 use mathlib.Core.Path.{sym, ap, _∙_}
 use native.Mathlib.Omega.{arith}
-use Rattle.rules.specs.Run.{Stepped, stepped}
 use Rattle.trace.specs.Answers.{item}
 use Rattle.trace.specs.Reading as reading
 use Rattle.files.proofs.Samples.{Stepping, stepping-start, stepping-less, stepping-asks, stepping-on, stepping-end}
@@ -43,18 +42,16 @@ steps-requires c κs = stepping-asks (c .before .before .before .before .before 
 
 add-place : tie.Need-add-place Inv-loop μ-loop
 unfolding reading.past
-add-place c = record { fits = rw (c .before .before .before .before .before .before .before .item .given .1) at (c .before .before .before .before .before .before .before .before .before .item-at .ensures .1) }
+add-place c = record { fits = rw (c .before .before .before .before .before .before .item .given .1) at (c .before .before .before .before .before .before .before .before .item-at .ensures .1) }
 
 loop-less : tie.Need-loop-less Inv-loop μ-loop
-loop-less c = omega (arith, stepping-less (c .before .before .before .before .before .before .before .before .before .before .loop .inv) _ (sym (c .before .before .before .before .before .before .before .before .before .item-at .ensures .0) ∙ ap item (c .before .before .before .before .before .before .before .item .given .1)))
+loop-less c = omega (arith, stepping-less (c .before .before .before .before .before .before .before .before .before .loop .inv) _ (sym (c .before .before .before .before .before .before .before .before .item-at .ensures .0) ∙ ap item (c .before .before .before .before .before .before .item .given .1)))
 
 loop-again : tie.Need-loop-again Inv-loop μ-loop
-unfolding stepped
 loop-again c =
-    stepping-on (c .before .before .before .before .before .before .before .before .before .before .loop .inv) _ (sym (c .before .before .before .before .before .before .before .before .before .item-at .ensures .0) ∙ ap item (c .before .before .before .before .before .before .before .item .given .1)) _ _
-    (ap (λ (x : Stepped). x .device) (c .before .before .before .steps .ensures))
-    (ap (λ (x : Stepped). x .buffer) (c .before .before .before .steps .ensures))
-    (c .before .before .before .steps .kept .1 .0)
+    stepping-on (c .before .before .before .before .before .before .before .before .before .loop .inv) _ (sym (c .before .before .before .before .before .before .before .before .item-at .ensures .0) ∙ ap item (c .before .before .before .before .before .before .item .given .1)) _ _
+    (c .before .before .steps .ensures)
+    (c .before .before .steps .kept .1 .0)
 
 pub steps-spec : {M : Type 1} → statement M
 steps-spec =

@@ -143,7 +143,7 @@ module _ {M : Type 1} (𝓤 : URA M) (H : Heap 𝓤) (A : Atoms 𝓤) (W : Given
         -- [the other tokens; the last memory; true; what the samples own; the device's cell; the open borrow; obs; auth; _8; …; _7; …; _6; …; _5; …; _4; …; _3; …; _2; …; _1; …; room for _0; …]
         land ! (from ! (stop !)) (init ! 14 refl (LL.lawful S.the-type S′.the-laws 𝓤 H A W .typed r _ is .0)) $ rewrite ! 14 (λ (v : Val). ‵ (fat fullShare S′.mir l₅ 0 v)) (ap only (LL.tells S.the-type S′.the-laws r _ is)) refl $
         assigns ! (of-opd ! (load ! (from ! (fld ! {τ = T′.mir} {d = 0} refl (stop !))) (look-in ! 14 {τ = T′.mir} (sub ! {τs = tcons T′.mir (tcons E′.mir tnil)} 0 {τ = T′.mir} {d = 0} refl (whole !))))) (from ! (hop ! (look ! 22 refl) (stop !))) (store ! 4 refl (typed 𝓤 H A W (r .device) (fields .0))) $
-        assigns ! (of-opd ! (load ! (from ! (fld ! {τ = E′.mir} {d = 96} refl (stop !))) (look-in ! 14 {τ = E′.mir} (sub ! {τs = tcons T′.mir (tcons E′.mir tnil)} 1 {τ = E′.mir} {d = 96} refl (whole !))))) (from ! (stop !)) (init ! 24 refl (EL.lawful E.the-type E′.the-laws 𝓤 H A W tt .typed (r .outcome) _ (fields .1 .0) .0)) $
+        assigns ! (of-opd ! (load ! (from ! (fld ! {τ = E′.mir} {d = 92} refl (stop !))) (look-in ! 14 {τ = E′.mir} (sub ! {τs = tcons T′.mir (tcons E′.mir tnil)} 1 {τ = E′.mir} {d = 92} refl (whole !))))) (from ! (stop !)) (init ! 24 refl (EL.lawful E.the-type E′.the-laws 𝓤 H A W tt .typed (r .outcome) _ (fields .1 .0) .0)) $
         -- the borrow is closed at the device after the call
         move ! (4 ∷ 5 ∷ 6 ∷ 7 ∷ []) $ device-closes ! tt (r .device) (fields .0) b o $
         -- [obs; the borrow; the token; the other tokens; the last memory; true; what the samples own; _8; …; _7; …; _6; …; _5; …; _4; …; _3; …; _2; …; _1; …; _0; …]

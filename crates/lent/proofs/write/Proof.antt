@@ -127,7 +127,7 @@ module _ {M : Type 1} (𝓤 : URA M) (H : Heap 𝓤) (A : Atoms 𝓤) (W : Given
         -- [the device's cell; the open borrow; obs; auth; _5; …; _4; …; _3; …; _2; …; _1; …; room for _0; …]
         land ! (from ! (stop !)) (init ! 6 refl (LL.lawful S.the-type S′.the-laws 𝓤 H A W .typed r _ is .0)) $ rewrite ! 6 (λ (v : Val). ‵ (fat fullShare S′.mir l₄ 0 v)) (ap only (LL.tells S.the-type S′.the-laws r _ is)) refl $
         assigns ! (of-opd ! (load ! (from ! (fld ! {τ = T′.mir} {d = 0} refl (stop !))) (look-in ! 6 {τ = T′.mir} (sub ! {τs = tcons T′.mir (tcons E′.mir tnil)} 0 {τ = T′.mir} {d = 0} refl (whole !))))) (from ! (hop ! (look ! 12 refl) (stop !))) (store ! 0 refl (typed 𝓤 H A W (r .device) (fields .0))) $
-        assigns ! (of-opd ! (load ! (from ! (fld ! {τ = E′.mir} {d = 96} refl (stop !))) (look-in ! 6 {τ = E′.mir} (sub ! {τs = tcons T′.mir (tcons E′.mir tnil)} 1 {τ = E′.mir} {d = 96} refl (whole !))))) (from ! (stop !)) (init ! 14 refl (EL.lawful E.the-type E′.the-laws 𝓤 H A W tt .typed (r .outcome) _ (fields .1 .0) .0)) $
+        assigns ! (of-opd ! (load ! (from ! (fld ! {τ = E′.mir} {d = 92} refl (stop !))) (look-in ! 6 {τ = E′.mir} (sub ! {τs = tcons T′.mir (tcons E′.mir tnil)} 1 {τ = E′.mir} {d = 92} refl (whole !))))) (from ! (stop !)) (init ! 14 refl (EL.lawful E.the-type E′.the-laws 𝓤 H A W tt .typed (r .outcome) _ (fields .1 .0) .0)) $
         -- the borrow is closed at the device after the call
         device-closes ! tt (r .device) (fields .0) b o $
         -- [obs; the borrow; the token; _5; …; _4; …; _3; …; _2; …; _1; …; _0; …]

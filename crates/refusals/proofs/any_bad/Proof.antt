@@ -1,21 +1,24 @@
 -- `refusals::any_bad` meets its contract. Assumes nothing.
--- The loop keeps that a sample is bad exactly if one of those from i on is.
+-- The loop keeps that a sample is bad exactly if one was found or one of those from i on is.
 use Prim.Native.Nat.{_≤_, _-_, ℕ, _<_}
 use borrow.Author.Needs.{needs}
 use lib.ListN.{length, drop-of-length-le, drop}
 use lib.Seq.{drop-cons}
-use mathlib.Core.Path.{_≡_, refl}
+use mathlib.Core.Bool.{_||_}
+use mathlib.Core.Logic.{⊎-elim}
+use mathlib.Core.Path.{_≡_, refl, sym}
 use native.Mathlib.Numerals.{add-one}
 use native.Mathlib.Omega.{arith}
 use Rattle.refusals.specs.Samples.{any-bad}
+use Rattle.refusals.proofs.Booleans.{or-unit, or-true}
 use Rattle.refusals.proofs.any_bad.Statement.{statement}
 use Rattle.refusals.proofs.any_bad.Tie as tie
 
 abbrev Inv-loop : tie.InvT-loop
-Inv-loop list i₀ i = any-bad list ≡ any-bad (drop i list)
+Inv-loop list any₀ i₀ any i = any-bad list ≡ (any || any-bad (drop i list))
 
 abbrev μ-loop : tie.MeasureT-loop
-μ-loop list i₀ i = length list - i
+μ-loop list any₀ i₀ any i = length list - i
 
 loop-holds : tie.Need-loop-holds Inv-loop μ-loop
 loop-holds c = refl
@@ -29,12 +32,6 @@ shared-slice-read-bad-sample c = omega arith
 bad-sample-requires : tie.Need-bad-sample-requires Inv-loop μ-loop
 bad-sample-requires c κs = search needs
 
-returns : tie.Need-returns Inv-loop μ-loop
-unfolding any-bad
-returns c =
-    let inside : c .before .before .before .before .loop .i < length (c .before .before .before .before .before .before .args .list .now) = c .before .before .before .loop-test .taken in
-    rw (c .before .before .before .before .loop .inv, drop-cons {A = ℕ} _ _ 0 inside, ← c .before .bad-sample .ensures, c .if1 .taken)
-
 add-i : tie.Need-add-i Inv-loop μ-loop
 add-i c = omega arith
 
@@ -45,13 +42,17 @@ loop-again : tie.Need-loop-again Inv-loop μ-loop
 unfolding any-bad
 loop-again c =
     let inside : c .before .before .before .before .loop .i < length (c .before .before .before .before .before .before .args .list .now) = c .before .before .before .loop-test .taken in
-    rw (c .before .before .before .before .loop .inv, add-one, drop-cons {A = ℕ} _ _ 0 inside, ← c .before .bad-sample .ensures, c .if1 .left)
+    let next = rw (drop-cons {A = ℕ} _ _ 0 inside, ← c .before .bad-sample .ensures) at (c .before .before .before .before .loop .inv) in
+    ⊎-elim
+    (λ w. rw (w .1) (rw (w .0 .taken, or-true) at next))
+    (λ w. rw (w .1, add-one) (rw (w .0 .left) at next))
+    (c .if1 .came)
 
-returns-2 : tie.Need-returns-2 Inv-loop μ-loop
+returns : tie.Need-returns Inv-loop μ-loop
 unfolding any-bad
-returns-2 c =
+returns c =
     let past : length (c .before .before .before .args .list .now) ≤ c .before .loop .i = c .loop-test .left in
-    rw (c .before .loop .inv, drop-of-length-le _ past)
+    sym (rw (drop-of-length-le _ past, or-unit) at (c .before .loop .inv))
 
 pub any-bad-spec : {M : Type 1} → statement M
 any-bad-spec =
@@ -63,8 +64,7 @@ any-bad-spec =
     mul-bad-sample
     shared-slice-read-bad-sample
     bad-sample-requires
-    returns
     add-i
     loop-less
     loop-again
-    returns-2)
+    returns)

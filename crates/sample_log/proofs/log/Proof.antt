@@ -46,6 +46,7 @@ use denote.Triple.Table.{entered, cited}
 use denote.Triple.Walked.{says, Stays, stay-none, stay-slice, walkOf, goes-none, goes-slice, Walks, ends-at, walked, walk-meets}
 use denote.Exit.{yes}
 use Rattle.device.specs.Answers as answers
+use Rattle.sampling.specs.Answers.{stepped}
 use Rattle.device.specs.declared.Outcome.{Outcome}
 use Rattle.device.specs.declared.Reply.{Reply}
 use Rattle.rules.specs.RegisterCalls as calls
@@ -221,7 +222,7 @@ module _ {M : Type 1} (𝓤 : URA M) (H : Heap 𝓤) (A : Atoms 𝓤) (W : Given
       qed W [] ∵ nothing ! $ owned ! T.the-row (Is T.the-row) (LL.makes T.the-type T′.the-plain 𝓤 H A) d _ d-is $ fjoin ! $ owned ! R.the-row (Is R.the-row) (EL.makes R.the-type R′.the-plain 𝓤 H A) r _ is $ fjoin ! $
       owned ! u32 (Is u32) (uint-makes 𝓤 H A W w32) w _ (refl, w-fits) $ fjoin ! $ nothing ! $ join ! $ frame ! $ done !
 
-  exits : (d : Device) (ys : List ℕ) → answers.stepped d ys ≡ samples (calls.write state.fresh 0 cr .device) ms trace-t → IsDevice d → length ys ≡ length ms
+  exits : (d : Device) (ys : List ℕ) → stepped d ys ≡ samples (calls.write state.fresh 0 cr .device) ms trace-t → IsDevice d → length ys ≡ length ms
       → ent 𝓤 (sep 𝓤 (sem 𝓤 H A (Memory-at κ γ ys (length ms))) (A .lft κ q)) (Post (val d))
   exits d ys e d-is l =
       qed W (‵ (Memory-at κ γ ys (length ms)) ∷ ‵ (flft κ q) ∷ []) ∵

@@ -1,27 +1,22 @@
 -- `sampling::steps` meets its contract. Assumes nothing.
--- The loop keeps `Going`, and that what is left of the samples leads to the same answers. Each turn is one step of the rules.
+-- The loop keeps `Going`: what is left of the samples leads to the same end. Each turn is one step of the rules.
 use Prim.Native.Nat.{_-_}
 use borrow.Author.Needs.{needs}
-use lib.ListN.{length, drop}
-use mathlib.Core.Path.{_≡_, refl, ap}
+use lib.ListN.{length}
+use mathlib.Core.Path.{sym}
 use native.Mathlib.Omega.{arith}
-use Rattle.rules.specs.Run as rules
-use Rattle.rules.specs.Run.{Stepped}
-use Rattle.sampling.specs.Answers.{stepped}
-use Rattle.sampling.proofs.Going.{Going, starting, going-on, stepped-on, stepped-end}
+use Rattle.sampling.proofs.Going.{Going, starting, going-on, going-end}
 use Rattle.sampling.proofs.steps.Statement.{statement}
 use Rattle.sampling.proofs.steps.Tie as tie
 
 abbrev Inv-loop : tie.InvT-loop
-Inv-loop buffer₀ samples last₀ i₀ buffer last i =
-    Going buffer₀ samples (last₀ .device) buffer (last .device) i
-    × (rules.stepped (stepped last buffer) (drop i samples) ≡ rules.stepped (stepped last₀ buffer₀) samples)
+Inv-loop buffer₀ samples e₀ i₀ buffer e i = Going buffer₀ samples e₀ buffer e i
 
 abbrev μ-loop : tie.MeasureT-loop
-μ-loop buffer₀ samples last₀ i₀ buffer last i = length samples - i
+μ-loop buffer₀ samples e₀ i₀ buffer e i = length samples - i
 
 loop-holds : tie.Need-loop-holds Inv-loop μ-loop
-loop-holds c = (starting _ _ _ (c .before .before .pre .0), refl)
+loop-holds c = starting _ _ _ (c .before .before .pre .0)
 
 mul-w : tie.Need-mul-w Inv-loop μ-loop
 mul-w c = search needs
@@ -31,29 +26,24 @@ shared-slice-read-w c = omega (arith, c .before .loop-test .taken)
 
 step-requires : tie.Need-step-requires Inv-loop μ-loop
 step-requires c κs =
-    let g = c .before .before .before .before .loop .inv .0 in
-    (g .well, omega (arith, g .count, c .before .before .before .loop-test .taken, c .before .before .before .before .before .before .before .pre .1))
+    let g = c .before .before .before .loop .inv in
+    (g .well, omega (arith, g .count, c .before .before .loop-test .taken, c .before .before .before .before .before .before .pre .1))
 
 add-i : tie.Need-add-i Inv-loop μ-loop
-add-i c = omega (arith, c .before .before .before .before .before .before .loop-test .taken, c .before .before .before .before .before .before .before .before .before .before .good)
+add-i c = omega (arith, c .before .before .before .before .before .loop-test .taken, c .before .before .before .before .before .before .before .before .before .good)
 
 loop-less : tie.Need-loop-less Inv-loop μ-loop
-loop-less c = omega (arith, c .before .before .before .before .before .before .loop-test .taken)
+loop-less c = omega (arith, c .before .before .before .before .before .loop-test .taken)
 
 loop-again : tie.Need-loop-again Inv-loop μ-loop
-loop-again c = (
-  going-on (c .before .before .before .before .before .before .before .loop .inv .0) _ _ (c .before .before .before .before .before .before .loop-test .taken)
-      (ap (λ (x : Stepped). x .device) (c .before .before .step .ensures))
-      (ap (λ (x : Stepped). x .buffer) (c .before .before .step .ensures))
-      (c .before .before .step .kept .1 .0),
-  stepped-on (stepped (c .before .before .before .before .before .before .before .loop .last) (c .before .before .before .before .before .before .before .loop .buffer)) _ _ _ _ (c .before .before .before .before .before .before .loop-test .taken) (c .before .before .before .before .before .before .before .loop .inv .1) (c .before .before .step .ensures),
-)
+loop-again c =
+    going-on (c .before .before .before .before .before .before .loop .inv) _ _ (c .before .before .before .before .before .loop-test .taken) (c .before .before .step .ensures) (c .before .before .step .kept .1 .0)
 
 same-length : tie.Need-same-length Inv-loop μ-loop
-same-length c = c .before .loop .inv .0 .long
+same-length c = c .before .loop .inv .long
 
 returns : tie.Need-returns Inv-loop μ-loop
-returns c = stepped-end _ _ _ _ (c .loop-test .left) (c .before .loop .inv .1)
+returns c = sym (going-end (c .before .loop .inv) (c .loop-test .left))
 
 pub steps-spec : {M : Type 1} → statement M
 steps-spec =

@@ -1,13 +1,11 @@
 -- `device::runs::run` meets its contract. Assumes nothing.
 -- Each return unfolds the definition and rewrites by what the calls gave and by the tests on the way there.
 use borrow.Author.Needs.{needs}
-use lib.ListN.{drop}
 use mathlib.Core.Path.{sym, _∙_, ap}
 use Rattle.device.proofs.AcceptedRuns.{tail-part, put-tail, refused, accepted-run}
-use Rattle.device.specs.Answers.{outcome, ran}
+use Rattle.device.specs.Answers.{outcome}
 use Rattle.rules.proofs.WellFormed.{facts}
-use Rattle.rules.specs.Run.{unstepped, run}
-use Rattle.sampling.proofs.Going.{ran-of, forget}
+use Rattle.rules.specs.Run.{run}
 use Rattle.device.proofs.runs.run.Statement.{statement}
 use Rattle.device.proofs.runs.run.Tie as tie
 
@@ -47,10 +45,7 @@ same-length-2 c = search needs
 returns-2 : tie.Need-returns-2
 unfolding run
 returns-2 c =
-    let a = c .before .before .before .before .before .before .before .before .before .before .before .args in
-    let stepped = rw tail-part at (c .before .before .before .steps .ensures) in
-    let run-of = ap ran-of stepped ∙ forget (unstepped (a .d) (drop (a .start) (a .memory .now))) (a .samples .now) in
-    rw (sym (c .before .before .before .before .before .before .before .run-refusal .ensures) ∙ ap outcome (c .before .before .before .before .before .enum-told .given .1), put-tail, ← run-of)
+    rw (sym (c .before .before .before .before .before .before .run-refusal .ensures) ∙ ap outcome (c .before .before .before .before .enum-told .given .1), put-tail, ← rw tail-part at (c .before .before .steps .ensures))
 
 pub run-spec : {M : Type 1} → statement M
 run-spec =

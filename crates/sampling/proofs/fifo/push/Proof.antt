@@ -1,27 +1,19 @@
 -- `sampling::fifo::push` meets its contract. Assumes nothing.
--- Each return unfolds the definition and rewrites by what the calls gave and by the tests on the way there.
+-- The return unfolds the definition and rewrites by what the call gave.
 use borrow.Author.Needs.{needs}
-use mathlib.Core.Path.{refl}
 use Rattle.rules.specs.Queue.{push}
 use Rattle.sampling.proofs.fifo.push.Statement.{statement}
 use Rattle.sampling.proofs.fifo.push.Tie as tie
 
-cast-at : tie.Need-cast-at
-cast-at c = search needs
-
-mul-slots : tie.Need-mul-slots
-mul-slots c = search needs
-
-array-write-slots : tie.Need-array-write-slots
-array-write-slots c = search needs
+with-slot-requires : tie.Need-with-slot-requires
+with-slot-requires c κs = search needs
 
 add-held : tie.Need-add-held
 add-held c = search needs
 
 returns : tie.Need-returns
 unfolding push
-returns c =
-    refl
+returns c = rw (← c .before .with-slot .ensures)
 
 pub push-spec : {M : Type 1} → statement M
-push-spec = tie.close (tie.spec cast-at mul-slots array-write-slots add-held returns)
+push-spec = tie.close (tie.spec with-slot-requires add-held returns)
