@@ -1,4 +1,4 @@
-// Rules 2 to 8 of one sample, over the capture state: each rule a function with the name of its definition. The functions are for the
+// Rules 2 to 8 of one sample, over the capture state: a rule has the name of its definition, and an edge is cut by whether a sync blanks. The functions are for the
 // crates above, which call them on well-formed devices; each states its result as an equation with its definition.
 ghost use mathlib.Core.Path.{_≡_};
 ghost use Prim.Native.Nat.{_+_, _<_, _^_};

@@ -1,13 +1,13 @@
--- Rules 2 to 8 keep a well-formed capture state, with one more allowed in the bound on lines and pixels, and a full word fits 32 bits.
+-- Rules 2 to 8 keep a well-formed capture state, with one more allowed in the bound on lines and pixels.
 -- The idea: each rule by the cases of its tests, with the laws of the parts that it changes. Assumes nothing.
 use mathlib.Core.Bool.{Bool, true, _||_}
-use mathlib.Core.Option.{Option, none, some}
-use mathlib.Core.Path.{_≡_, refl, subst}
-use Prim.Native.Nat.{ℕ, _+_, _^_, _≤_, _<_}
+use mathlib.Core.Option.{some}
+use mathlib.Core.Path.{_≡_, refl}
+use Prim.Native.Nat.{ℕ, _+_, _≤_, _<_}
 use native.Mathlib.Omega.{arith}
 use lib.Dec.{ltb}
 use lib.Pow.{pow-pos}
-use borrow.Author.Tests.{ltb-true, ltb-false}
+use borrow.Author.Tests.{ltb-true}
 use Rattle.registers.specs.Control.{enable}
 use Rattle.rules.specs.declared.Syncs.{Syncs}
 use Rattle.rules.specs.declared.Scan.{Scan}
@@ -20,23 +20,18 @@ use Rattle.rules.specs.WellFormed.{is-taken, lines, pixels}
 use Rattle.refusals.proofs.Booleans.{and-true}
 use Rattle.rules.proofs.Booleans.{by-cond, either}
 use Rattle.rules.proofs.WellFormed.{CaptureOk}
-use Rattle.laws.proofs.Packing.{used, packed-partial, packed-full}
+use Rattle.laws.proofs.Packing.{used, packed-partial}
 use Rattle.laws.proofs.CaptureParts.{pins-syncs-ok, partial-ok, scan-ok}
 use Rattle.laws.proofs.KeepsFrame.{sync-flags-ok, frame-end-ok, frame-start-ok}
 
--- A word, if there is one, fits 32 bits.
-abbrev pub Fits : Option ℕ → Type 0
-Fits none = Unit {0}
-Fits (some v) = v < 2 ^ 32
-
-pub record CapturedOk (n : ℕ) (c : Captured) : Type 0 where
-  pub state : CaptureOk n (c .state)
-  pub fits : Fits (c .word)
+-- The state after a sample.
+abbrev CapturedOk : ℕ → Captured → Type 0
+CapturedOk n c = CaptureOk n (c .state)
 
 module _ {n : ℕ} where
   no-word-ok : {s : Capture} → CaptureOk n s → CapturedOk n (no-word s)
   unfolding no-word
-  no-word-ok h = record { state = h; fits = tt }
+  no-word-ok h = h
 
   grow : {s : Capture} → CaptureOk n s → CaptureOk (n + 1) s
   unfolding with-pins with-syncs
@@ -64,7 +59,7 @@ module _ {n : ℕ} where
       let last = partial-ok no-partial (pow-pos _) (omega arith) (λ pos. taken) h in
       by-cond (CapturedOk n) (ltb (c + 1) full) _ _
       (λ t. no-word-ok (more (ltb-true (c + 1) full t)))
-      (λ t. record { state = last; fits = packed-full s w bits (h .short) (ltb-false (c + 1) full t) })
+      (λ t. last)
 
 module _ {n : ℕ} where
   pixel-ok : {s : Capture} (taken : Bool) (f : Scan) (w : ℕ) → s .frame ≡ Open taken f → CaptureOk n s
@@ -84,31 +79,25 @@ module _ {n : ℕ} where
       either (CapturedOk (n + 1)) (now .hsync || now .vsync) (no-word-ok (grow h)) (pixel-ok taken f w in-f h)
 
   -- Rules 3 to 8.
-  pub at-edge-ok : {s : Capture} (now : Syncs) (w : ℕ) → CaptureOk n s → CapturedOk (n + 1) (at-edge s now w)
+  pub at-edge-ok : {s : Capture} (now : Syncs) (w : ℕ) → CaptureOk n s → CaptureOk (n + 1) (at-edge s now w .state)
   unfolding at-edge pixel-edge
   at-edge-ok now w h = pixel-in-ok _ now w refl (frame-start-ok now (frame-end-ok now (sync-flags-ok now h)))
 
-  remember-ok : {c : Captured} (now : Syncs) (w : ℕ) → CapturedOk n c → CapturedOk n (remember now w c)
+  remember-ok : (c : Captured) (now : Syncs) (w : ℕ) → CapturedOk n c → CapturedOk n (remember now w c)
   unfolding remember remember-pins
-  remember-ok now w k = record { state = pins-syncs-ok _ now (omega arith) (k .state); fits = k .fits }
+  remember-ok c now w k = pins-syncs-ok _ now (omega arith) k
 
   remember-pins-ok : {s : Capture} (w : ℕ) → CaptureOk n s → CaptureOk (n + 1) (remember-pins w s)
   unfolding remember-pins with-syncs
   remember-pins-ok {s} w h = pins-syncs-ok _ (s .syncs) (omega arith) h
 
 -- Rules 2 to 8.
-whole : {n : ℕ} (s : Capture) (w : ℕ) → CaptureOk n s → CapturedOk (n + 1) (capture-sample s w)
-unfolding capture-sample
-whole {n} s w h =
-    either (CapturedOk (n + 1)) (working-edge s w)
-    (remember-ok (blanking s w) w (at-edge-ok (blanking s w) w h))
-    (no-word-ok (remember-pins-ok w h))
-
 pub captured-ok : {n : ℕ} (s : Capture) (w : ℕ) → CaptureOk n s → CaptureOk (n + 1) (capture-sample s w .state)
-captured-ok s w h = whole s w h .state
-
-pub word-fits : {n : ℕ} (s : Capture) (w v : ℕ) → CaptureOk n s → capture-sample s w .word ≡ some v → v < 2 ^ 32
-word-fits s w v h is = subst Fits is (whole s w h .fits)
+unfolding capture-sample
+captured-ok {n} s w h =
+    either (CapturedOk (n + 1)) (working-edge s w)
+    (remember-ok _ (blanking s w) w (at-edge-ok (blanking s w) w h))
+    (no-word-ok (remember-pins-ok w h))
 
 -- A word is completed with ENABLE 1 only.
 pub word-enabled : (s : Capture) (w v : ℕ) → capture-sample s w .word ≡ some v → enable (s .registers .cr) ≡ true

@@ -5,7 +5,6 @@ pub mod KeepsCapture
 pub mod KeepsEnable
 pub mod KeepsFrame
 pub mod KeepsQueue
-pub mod KeepsSlots
 pub mod KeepsWrites
 pub mod Packing
 pub mod RegisterValues

@@ -23,7 +23,7 @@ use Rattle.sampling.specs.Parts.{granted, remember-pins, at-edge}
 -- RIS after a working edge.
 pub edge-ris : {n : ℕ} (s : Capture) (w : ℕ) → CaptureOk n s → edge.at-edge s w .state .registers .ris ≤ 31
 unfolding edge.at-edge with-syncs
-edge-ris s w ok = at-edge-ok (rules.blanking s w) w ok .state .ris
+edge-ris s w ok = at-edge-ok (rules.blanking s w) w ok .ris
 
 lose-frame-pins : (w : ℕ) (s : Capture) → lose-frame (rules.remember-pins w s) ≡ rules.remember-pins w (lose-frame s)
 unfolding lose-frame rules.remember-pins close-frame clear-capture raise with-pins with-partial with-frame with-registers

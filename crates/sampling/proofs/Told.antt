@@ -7,17 +7,24 @@ use mathlib.Core.Path.{_≡_, refl}
 use Prim.Native.Nat.{ℕ, _+_, _-_, _*_, _<_}
 use native.Mathlib.Omega.{arith}
 use lib.Dec.{ltb, eqb}
-use lib.ListN.{length}
+use lib.ListN.{length, length-append, length-drop}
 use lib.Seq.{getD-set-same}
 use borrow.Author.Tests.{ltb-true, eq-eqb, ne-eqb}
 use Rattle.rules.specs.declared.Device.{Device}
 use Rattle.rules.specs.State.{depth, with-capture}
-use Rattle.rules.specs.Queue.{lands, landed, Granted, grant, push, discard, count-word, hold, overrun, Completed, full-word, complete}
+use Rattle.rules.specs.Queue.{pop, lands, landed, Granted, grant, push, discard, count-word, hold, overrun, Completed, full-word, complete}
 use Rattle.rules.specs.Run.{count-sample, after-grant, step}
 use Rattle.rules.proofs.Booleans.{by-cond, either}
-use Rattle.laws.proofs.KeepsSlots.{Slots, grant-slots}
 use Rattle.sampling.specs.Parts.{landing-told, packing-told}
 use Rattle.sampling.proofs.Laws.{grant-leaves}
+
+-- The FIFO has four slots, and rule 1 keeps that number.
+abbrev pub Slots : Device → Type 0
+Slots d = length (d .fifo .slots) ≡ depth
+
+grant-slots : (d : Device) (b : List ℕ) (w : ℕ) → Slots d → Slots (grant d b w .device)
+unfolding grant landed pop
+grant-slots d b w h = either (λ (g : Granted). Slots (g .device)) (lands d b w) (simp (length-append, length-drop) (omega arith)) h
 
 -- Rule 9 leaves the words landed.
 complete-landed : (o : Option ℕ) (d : Device) → complete o d .device .counts .landed ≡ d .counts .landed
