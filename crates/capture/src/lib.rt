@@ -88,7 +88,7 @@ fn pixel_in(frame: Frame, s: Capture, w: u32) -> Captured
 }
 
 // Rules 3 to 8 at a working edge at which neither sync blanks: no flag rises and no frame ends.
-fn neither_blanks(s: Capture, w: u32) -> Captured
+fn plain_edge(s: Capture, w: u32) -> Captured
     requires { ⌜ CaptureOk 4294967294 s ⌝ }
     ensures { λ r. ⌜ meant r ≡ rules.at-edge s state.not-blanking w ⌝ }
 {
@@ -102,7 +102,7 @@ fn neither_blanks(s: Capture, w: u32) -> Captured
 }
 
 // Rules 3 to 5 at a working edge at which a sync blanks: it carries no pixel.
-fn one_blanks(s: Capture, now: Syncs) -> Capture
+fn blanked_edge(s: Capture, now: Syncs) -> Capture
     requires { ⌜ CaptureOk 4294967294 s ⌝ }
     ensures { λ r. ⌜ r ≡ rules.frame-start (rules.frame-end (rules.sync-flags s now) now) now ⌝ }
 {
@@ -116,13 +116,13 @@ fn at_edge(s: Capture, now: Syncs, w: u32) -> Captured
     requires { ⌜ CaptureOk 4294967294 s ⌝ }
     ensures { λ r. ⌜ meant r ≡ rules.at-edge s now w ⌝ }
 {
-    if syncs::one_of(now) {
+    if syncs::any_blanks(now) {
         return Captured {
-            state: one_blanks(s, now),
+            state: blanked_edge(s, now),
             word: Word::Nothing,
         };
     }
-    neither_blanks(s, w)
+    plain_edge(s, w)
 }
 
 // Rules 3 to 8 at a working edge, and whether each sync blanks remembered. Lines and pixels can be counted further by one.

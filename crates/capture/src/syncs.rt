@@ -79,7 +79,7 @@ pub fn blanking(s: Capture, w: u32) -> Syncs
 }
 
 // Whether a sync blanks.
-pub fn one_of(now: Syncs) -> bool
+pub fn any_blanks(now: Syncs) -> bool
     ensures { λ r. ⌜ r ≡ (now .hsync || now .vsync) ⌝ }
 {
     if now.hsync {

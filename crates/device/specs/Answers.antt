@@ -2,7 +2,6 @@
 use mathlib.Core.Bool.{Bool, true, false}
 use mathlib.Core.List.{List}
 use Prim.Native.Nat.{ℕ}
-use Rattle.rules.specs.declared.Device.{Device}
 use Rattle.refusals.specs.Refusals.{Answer, refused, answered}
 use Rattle.rules.specs.Answers.{Changed}
 use Rattle.rules.specs.Run.{RunResult, SampleAnswer, SampleResult}

@@ -7,8 +7,8 @@ use mathlib.Core.List.{List, [], _∷_, _++_, append-assoc, append-nil}
 use native.Mathlib.Nat.{one-le-mul}
 use native.Mathlib.Decide.{decLe}
 use native.Mathlib.Omega.{arith}
-use lib.ListN.{length, take, drop, getD, length-append, length-drop, take-append-drop}
-use lib.Seq.{append-snoc, split-at, take-add}
+use lib.ListN.{length, take, drop, length-append, length-drop, take-append-drop}
+use lib.Seq.{append-snoc, take-add}
 use Rattle.queue.specs.Queue.{Input, start, leave, sample, from, after, grants, words, Granted, Spaced, Served}
 use Rattle.queue.proofs.Steps.{leaves, arrives}
 use Rattle.queue.proofs.Flow.{from-append, grants-append, queue-law}
@@ -67,14 +67,6 @@ pub finds-room : {A : Type 0} (d s : ℕ) (ys : List (Input A)) (x : Input A) (z
     1 ≤ d → 1 ≤ s → Granted d s (ys ++ x ∷ zs) → Spaced s (ys ++ x ∷ zs) → x .word ≡ some v →
     length (leave x (after d ys) .held) < d
 finds-room d s ys x zs v d1 s1 g p e = finds d s d1 s1 ys zs x (one-word x v e) g p
-
--- The same for sample number n, counted from 0.
-pub finds-room-at : {A : Type 0} (d s : ℕ) (xs : List (Input A)) (n : ℕ) (idle : Input A) (v : A) →
-    1 ≤ d → 1 ≤ s → Granted d s xs → Spaced s xs → n < length xs → getD xs n idle .word ≡ some v →
-    length (leave (getD xs n idle) (after d (take n xs)) .held) < d
-finds-room-at d s xs n idle v d1 s1 g p h e =
-    let c = split-at xs n idle h in
-    finds-room d s (take n xs) (getD xs n idle) (drop (suc n) xs) v d1 s1 (subst (Granted d s) c g) (subst (Spaced s) c p) e
 
 module _ {A : Type 0} (d s : ℕ) (xs : List (Input A)) (d1 : 1 ≤ d) (s1 : 1 ≤ s) (g : Granted d s xs) (p : Spaced s xs) where
   keeps-all : (n : ℕ) → after d (take n xs) .lost ≡ 0

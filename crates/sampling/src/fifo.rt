@@ -3,7 +3,6 @@ ghost use mathlib.Core.Path.{_≡_};
 ghost use Prim.Native.Nat.{_+_, _<_, _^_};
 ghost use mathlib.Core.List.{[], _∷_, _++_};
 ghost use lib.ListN.{drop, set, getD};
-ghost use Rattle.rules.specs.State as state;
 ghost use Rattle.rules.specs.Queue as rules;
 use rules::Device;
 use rules::Fifo;

@@ -2,10 +2,10 @@
 -- writes reads back, and every accepted file is what the writer writes for its content.
 -- The idea: a walk over n items is one item and a walk over the rest; files and contents by `rewritten` and `ReadBack`. Assumes nothing.
 use mathlib.Core.Bool.{false}
-use mathlib.Core.List.{List, [], _∷_, _++_, map, append-assoc}
-use mathlib.Core.Path.{_≡_, refl, sym, ap, _∙_}
-use Prim.Native.Nat.{ℕ, zero, suc, _+_, _≤_, _<_, _^_}
-use native.Mathlib.Nat.{zero-add, add-zero, add-suc, suc-add, add-assoc}
+use mathlib.Core.List.{List, [], _∷_, _++_, map}
+use mathlib.Core.Path.{_≡_, refl, ap}
+use Prim.Native.Nat.{ℕ, zero, suc, _+_, _≤_, _^_}
+use native.Mathlib.Nat.{zero-add, add-zero, add-suc, suc-add}
 use native.Mathlib.Numerals.{add-one}
 use native.Mathlib.Omega.{arith}
 use lib.Dec.{ltb, leb}
@@ -23,7 +23,7 @@ use Rattle.trace.specs.Writing.{WriteResult, write-refusal, write}
 use Rattle.trace.proofs.Fields.{field-one}
 use Rattle.trace.proofs.Numbers.{Bytes, byte-below}
 use Rattle.trace.proofs.ReadBack.{WritesFit, SamplesFit, Fits, form-back, write-count-back, sample-count-back, writes-back, samples-back}
-use Rattle.trace.proofs.Rewritten.{Formed, formed, rewritten, length-writes-of, length-samples-of}
+use Rattle.trace.proofs.Rewritten.{formed, rewritten, length-writes-of, length-samples-of}
 use Rattle.trace.proofs.Walk.{write-place, sample-place, end-place}
 
 -- Where the place stays, every further reading finds the same.

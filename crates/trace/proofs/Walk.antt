@@ -16,7 +16,7 @@ use Rattle.trace.specs.Answers.{number}
 use Rattle.trace.specs.declared.Refusal.{Refusal}
 use Rattle.trace.specs.declared.Refusal.the-variants.{SampleBits, Mark, Version, SampleCount, Length, WriteCount, Room}
 use Rattle.trace.specs.Format.{encode}
-use Rattle.trace.specs.Reading.{Item, a-write, a-sample, the-end, refused, checked, item, past, write-count, sample-count, form-refusal, write-at, sample-at, writes-from, samples-from, writes-of, samples-of}
+use Rattle.trace.specs.Reading.{Item, a-write, a-sample, the-end, refused, checked, item, past, write-count, sample-count, form-refusal, write-at, sample-at, samples-from, writes-of, samples-of}
 use Rattle.trace.proofs.Numbers.{Bytes}
 use Rattle.trace.proofs.Rewritten.{rewritten}
 

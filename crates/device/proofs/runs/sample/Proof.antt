@@ -10,7 +10,7 @@ use Rattle.device.proofs.AcceptedRuns.{tail-part, put-tail, landing-wit
 use Rattle.device.specs.Answers.{outcome}
 use Rattle.rules.proofs.WellFormed.{facts}
 use Rattle.rules.specs.declared.Device.{Device}
-use Rattle.rules.specs.Run.{step, Ran, steps, sample}
+use Rattle.rules.specs.Run.{Ran, steps, sample}
 use Rattle.laws.proofs.KeepsQueue.{step-keeps}
 use Rattle.sampling.specs.Parts.{landing-told}
 use Rattle.sampling.proofs.Told.{landing-of-step, packing-of-step}

@@ -1,7 +1,6 @@
 -- `trace::cursor::found` meets its contract. Assumes nothing.
 -- Each return unfolds the definition and rewrites by what the calls gave and by the tests on the way there.
 use borrow.Author.Needs.{needs}
-use mathlib.Core.Path.{ap, sym, _∙_}
 use Rattle.trace.specs.Answers.{form}
 use Rattle.trace.specs.Reading.{found, past}
 use Rattle.trace.proofs.Walk.{never-zero}

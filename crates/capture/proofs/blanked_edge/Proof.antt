@@ -1,12 +1,12 @@
--- `capture::one_blanks` meets its contract. Assumes nothing.
+-- `capture::blanked_edge` meets its contract. Assumes nothing.
 -- The three calls in order; each leaves what the next needs.
 use borrow.Author.Needs.{needs}
 use native.Mathlib.Omega.{arith}
 use Rattle.capture.proofs.Laws.{short-period}
 use Rattle.laws.proofs.KeepsFrame.{sync-flags-ok, frame-end-ok}
 use Rattle.rules.specs.Capture.{frame-end, sync-flags}
-use Rattle.capture.proofs.one_blanks.Statement.{statement}
-use Rattle.capture.proofs.one_blanks.Tie as tie
+use Rattle.capture.proofs.blanked_edge.Statement.{statement}
+use Rattle.capture.proofs.blanked_edge.Tie as tie
 
 sync-flags-requires : tie.Need-sync-flags-requires
 sync-flags-requires c κs = search needs
@@ -23,5 +23,5 @@ frame-start-requires c κs =
 returns : tie.Need-returns
 returns c = rw (← c .before .before .sync-flags .ensures, ← c .before .frame-end .ensures, ← c .frame-start .ensures)
 
-pub one-blanks-spec : {M : Type 1} → statement M
-one-blanks-spec = tie.close (tie.spec sync-flags-requires frame-end-requires frame-start-requires returns)
+pub blanked-edge-spec : {M : Type 1} → statement M
+blanked-edge-spec = tie.close (tie.spec sync-flags-requires frame-end-requires frame-start-requires returns)
