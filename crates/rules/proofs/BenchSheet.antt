@@ -169,7 +169,11 @@ mistakes =
     (leaves accepted (0x00020001 ∷ 0x000E000D ∷ []) 0 5 0x48E1 0x1B 3) ∷
     []
 
--- Every case leaves what its row says.
-pub bench-sheet : map made (starred ++ mistakes) ≡ map (λ c. c .sheet) (starred ++ mistakes)
-unfolding written words made starred mistakes unsupported register-at fresh raised lowered with-cr with-ris with-ier with-cwstrt with-cwsize with-registers with-pins with-syncs with-frame with-rate with-partial raise clear-capture close-frame with-capture no-word working-edge remember-pins blanking vsync-flag line-flag sync-flags frame-captured end-of frame-end rate-period next-rate open-frame start-of frame-start line-begins next-pixel within in-window captured width lane per-word packed-bits pack pixel pixel-in pixel-edge at-edge remember capture-sample pop push bytes room stored lands landed grant discard count-word hold lose-frame overrun full-word complete all-zero bad-fifo unused-bits full-partial excluded bad-flags active-disabled partial-outside bad-rate above-samples bad-place bad-counts malformed status masked read-refusal read changes-setup write-refusal enabling disabling switch-enable capture-rises switch-capture write-control clear-flags write-register write-at write rearmed rearm count-sample after-grant step steps bad-sample any-bad run-refusal run
-bench-sheet = refl
+-- Rule 5 with CM 1, which only the state shows: FCRC 1, and the rate counter once a frame has started.
+unfoldable pub snapshot-rate : ℕ
+snapshot-rate = run (write fresh CR 0x49E3 .device) [] 0 (edges (blank ∷ 1 ∷ [])) .device .capture .rate
+
+-- Every case leaves what its row says, and with CM 1 the rate counter stays.
+pub bench-sheet : (map made (starred ++ mistakes) ≡ map (λ c. c .sheet) (starred ++ mistakes)) × (snapshot-rate ≡ 0)
+unfolding snapshot-rate written words made starred mistakes unsupported register-at fresh raised lowered with-cr with-ris with-ier with-cwstrt with-cwsize with-registers with-pins with-syncs with-frame with-rate with-partial raise clear-capture close-frame with-capture no-word working-edge remember-pins blanking vsync-flag line-flag sync-flags frame-captured end-of frame-end rate-period next-rate open-frame start-of frame-start line-begins next-pixel within in-window captured width lane per-word packed-bits pack pixel pixel-in pixel-edge at-edge remember capture-sample pop push bytes room stored lands landed grant discard count-word hold lose-frame overrun full-word complete all-zero bad-fifo unused-bits full-partial excluded bad-flags active-disabled partial-outside bad-rate above-samples bad-place bad-counts malformed status masked read-refusal read changes-setup write-refusal enabling disabling switch-enable capture-rises switch-capture write-control clear-flags write-register write-at write rearmed rearm count-sample after-grant step steps bad-sample any-bad run-refusal run
+bench-sheet = (refl, refl)
