@@ -1,5 +1,5 @@
 #!/usr/bin/env bash
-# The table of docs/SPEED.md: instructions and time a sample, of dcmi_run, dcmi_run_file and the model of tests/c. Takes some minutes; no test.
+# The table of docs/SPEED.md: instructions and time a sample, of dcmi_run, dcmi_run_file and the model of tests/c. Takes about a minute; no test.
 set -eu
 cd "$(dirname "$0")/.."
 out=target/bench

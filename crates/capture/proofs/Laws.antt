@@ -17,7 +17,7 @@ use Rattle.rules.specs.declared.Capture.{Capture}
 use Rattle.rules.specs.State.{not-blanking, raise, with-registers, with-ris}
 use Rattle.rules.specs.Capture.{no-word, vsync-flag, line-flag, sync-flags, frame-end, rate-period, frame-start, width, lane, per-word, packed-bits, pixel-in, pixel-edge, at-edge}
 use Rattle.refusals.proofs.Booleans.{or-false}
-use Rattle.rules.proofs.Booleans.{either}
+use Rattle.rules.proofs.Booleans.{either, imp-and-false}
 use Rattle.rules.proofs.WellFormed.{CaptureOk}
 use Rattle.laws.proofs.Packing.{layout, used, packed-partial, packed-full}
 use Rattle.laws.proofs.RegisterValues.{raised-fits}
@@ -74,14 +74,12 @@ unfolding at-edge pixel-edge
 blanked-edge s now w blanks = no-pixel _ _ now w blanks
 
 -- Where neither blanks no flag rises and no frame ends.
-false-right : (a : Bool) → (a && false) ≡ false
-false-right true = refl
-false-right false = refl
-
 pub plain-edge : (s : Capture) (w : ℕ)
     → at-edge s not-blanking w ≡ pixel-in (frame-start s not-blanking .frame) (frame-start s not-blanking) not-blanking w
 unfolding at-edge pixel-edge frame-end sync-flags line-flag vsync-flag
-plain-edge s w = rw (false-right, false-right)
+plain-edge s w =
+    let no-flag : (blanked : Bool) → (not blanked && false) ≡ false = λ blanked. imp-and-false (not blanked) false (λ e. refl) in
+    rw (no-flag (s .syncs .vsync), no-flag (s .syncs .hsync))
 
 pub neither : (now : Syncs) → (now .hsync || now .vsync) ≡ false → now ≡ not-blanking
 neither now e =

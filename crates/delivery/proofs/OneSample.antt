@@ -13,10 +13,10 @@ use Rattle.rules.specs.declared.Capture.{Capture}
 use Rattle.rules.specs.declared.Device.{Device}
 use Rattle.rules.specs.State.{depth, with-capture}
 use Rattle.rules.specs.Capture.{bus-grant, capture-sample}
-use Rattle.rules.specs.Queue.{lands, landed, Granted, grant, Packed, completed, nothing, count-word, hold}
+use Rattle.rules.specs.Queue.{grant, Packed, completed, nothing, count-word, hold}
 use Rattle.rules.specs.Run.{count-sample, after-grant, step}
-use Rattle.rules.proofs.Booleans.{either}
 use Rattle.rules.proofs.WellFormed.{WellFormed}
+use Rattle.laws.proofs.Untouched.{grant-untouched}
 use Rattle.delivery.proofs.Beside.{Beside, grant-leaves, taken, complete-taken, taken-arrives}
 
 -- The sample w as the queue sees it, in the capture state s.
@@ -28,11 +28,7 @@ abbrev pub answered : Option ℕ → Packed
 answered none = nothing
 answered (some v) = completed v
 
--- Rules 1 and 9 leave the capture state as it is.
-grant-capture : (d : Device) (b : List ℕ) (w : ℕ) → grant d b w .device .capture ≡ d .capture
-unfolding grant landed
-grant-capture d b w = either (λ (g : Granted). g .device .capture ≡ d .capture) (lands d b w) refl refl
-
+-- Rule 9 leaves the capture state as it is where no word is lost.
 taken-capture : (o : Option ℕ) (d : Device) → taken o d .device .capture ≡ d .capture
 unfolding taken hold count-word
 taken-capture none d = refl
@@ -70,7 +66,7 @@ sampled {b₀} {q} {s} d b w same well space finds r =
     let l : Beside b₀ (leave (input s w) q) (g .device) (g .buffer) =
     grant-leaves (capture-sample s w .word) (count-sample d) b w on (well .queue .held) space r in
     let fewer : (v : ℕ) → capture-sample s w .word ≡ some v → g .device .fifo .held < depth = λ v e. omega (arith, finds v e) in
-    let t = after-grant-taken (g .device) s w (grant-capture (count-sample d) b w ∙ same) fewer in
+    let t = after-grant-taken (g .device) s w (grant-untouched (count-sample d) b w .capture ∙ same) fewer in
     record {
       capture = rw t (taken-capture _ _);
       beside = rw t (taken-arrives (bus-grant w) (capture-sample s w .word) _ (g .buffer) fewer l);

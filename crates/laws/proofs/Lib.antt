@@ -10,3 +10,4 @@ pub mod Packing
 pub mod RegisterValues
 pub mod WriteControl
 pub mod Conservation
+pub mod Untouched

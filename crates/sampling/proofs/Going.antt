@@ -1,37 +1,24 @@
 -- A run's loop: what is left of the samples leads from the present device and buffer to the same end as all of them from the first.
 -- The idea: one step takes the head of what is left. Assumes nothing.
 use mathlib.Core.List.{List, [], _∷_}
-use mathlib.Core.Option.{Option, none, some}
 use mathlib.Core.Path.{_≡_, refl, sym, ap, _∙_}
 use Prim.Native.Nat.{ℕ, _+_, _≤_, _<_}
 use native.Mathlib.Numerals.{add-one}
 use native.Mathlib.Omega.{arith}
-use lib.Dec.{ltb}
 use lib.ListN.{length, getD, drop, drop-of-length-le}
 use lib.Seq.{drop-cons}
 use Rattle.rules.specs.declared.Device.{Device}
-use Rattle.rules.specs.State.{depth, with-capture}
-use Rattle.rules.specs.Queue.{lands, landed, Granted, grant, discard, count-word, hold, overrun, Completed, full-word, complete}
+use Rattle.rules.specs.State.{with-capture}
 use Rattle.rules.specs.Run.{count-sample, after-grant, step, Ran, steps}
-use Rattle.rules.proofs.Booleans.{either}
 use Rattle.rules.proofs.WellFormed.{WellFormed}
 use Rattle.laws.proofs.KeepsQueue.{step-keeps}
+use Rattle.laws.proofs.Untouched.{grant-untouched, complete-untouched}
 use Rattle.sampling.specs.Answers.{stepped}
 
 -- A sample counts one sample.
-grant-samples : (d : Device) (b : List ℕ) (w : ℕ) → grant d b w .device .counts .samples ≡ d .counts .samples
-unfolding grant landed
-grant-samples d b w = either (λ (g : Granted). g .device .counts .samples ≡ d .counts .samples) (lands d b w) refl refl
-
-complete-samples : (o : Option ℕ) (d : Device) → complete o d .device .counts .samples ≡ d .counts .samples
-unfolding complete full-word hold overrun count-word discard with-capture
-complete-samples none d = refl
-complete-samples (some v) d =
-    either (λ (c : Completed). c .device .counts .samples ≡ d .counts .samples) (ltb (d .fifo .held) depth) refl refl
-
 pub step-samples : (d : Device) (b : List ℕ) (w : ℕ) → step d b w .device .counts .samples ≡ d .counts .samples + 1
 unfolding step after-grant with-capture count-sample
-step-samples d b w = complete-samples _ _ ∙ grant-samples (count-sample d) b w
+step-samples d b w = complete-untouched _ _ .samples ∙ grant-untouched (count-sample d) b w .samples
 
 pub record Going (buffer₀ samples : List ℕ) (d₀ : Device) (buffer : List ℕ) (d : Device) (i : ℕ) : Type 0 where
   pub same : steps d buffer (drop i samples) ≡ steps d₀ buffer₀ samples

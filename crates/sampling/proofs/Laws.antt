@@ -1,4 +1,4 @@
--- What the calls inside a sample ask of their devices: the FIFO's slots as a list of four, what a landing's test tells, and what rule 1 leaves.
+-- What the calls inside a sample ask of their devices: the FIFO's slots as a list of four, what a landing's test tells, and one more sample counted.
 -- The idea: cases on the test. Assumes nothing.
 use mathlib.Core.Bool.{true, _&&_}
 use mathlib.Core.List.{List, [], _∷_, _++_}
@@ -14,10 +14,9 @@ use Rattle.rules.specs.declared.Capture.{Capture}
 use Rattle.rules.specs.declared.Device.{Device}
 use Rattle.rules.specs.State.{with-pins, with-syncs}
 use Rattle.rules.specs.Capture.{bus-grant}
-use Rattle.rules.specs.Queue.{pop, room, lands, landed, grant}
+use Rattle.rules.specs.Queue.{room, lands}
 use Rattle.rules.specs.Run.{count-sample}
 use Rattle.refusals.proofs.Booleans.{and-true}
-use Rattle.rules.proofs.Booleans.{either}
 use Rattle.laws.proofs.CaptureParts.{pins-syncs-ok}
 use Rattle.rules.proofs.WellFormed.{CaptureOk, WellFormed}
 
@@ -78,17 +77,3 @@ counted h =
             equation = h .queue .equation;
           };
     }
-
--- Rule 1 leaves the capture state and the words completed and discarded, and holds no more than before.
-pub record Left (d e : Device) : Type 0 where
-  pub capture : e .capture ≡ d .capture
-  pub completed : e .counts .completed ≡ d .counts .completed
-  pub discarded : e .counts .discarded ≡ d .counts .discarded
-  pub held : e .fifo .held ≤ d .fifo .held
-
-pub grant-leaves : (d : Device) (b : List ℕ) (w : ℕ) → Left d (grant d b w .device)
-unfolding grant landed pop
-grant-leaves d b w =
-    either (λ (g : Rattle.rules.specs.Queue.Granted). Left d (g .device)) (lands d b w)
-    (record { capture = refl; completed = refl; discarded = refl; held = omega arith })
-    (record { capture = refl; completed = refl; discarded = refl; held = omega arith })

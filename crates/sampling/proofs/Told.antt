@@ -16,7 +16,7 @@ use Rattle.rules.specs.Queue.{pop, lands, landed, Granted, grant, push, discard
 use Rattle.rules.specs.Run.{count-sample, after-grant, step}
 use Rattle.rules.proofs.Booleans.{by-cond, either}
 use Rattle.sampling.specs.Parts.{landing-told, packing-told}
-use Rattle.sampling.proofs.Laws.{grant-leaves}
+use Rattle.laws.proofs.Untouched.{grant-untouched, complete-untouched}
 
 -- The FIFO has four slots, and rule 1 keeps that number.
 abbrev pub Slots : Device → Type 0
@@ -26,16 +26,10 @@ grant-slots : (d : Device) (b : List ℕ) (w : ℕ) → Slots d → Slots (grant
 unfolding grant landed pop
 grant-slots d b w h = either (λ (g : Granted). Slots (g .device)) (lands d b w) (simp (length-append, length-drop) (omega arith)) h
 
--- Rule 9 leaves the words landed.
-complete-landed : (o : Option ℕ) (d : Device) → complete o d .device .counts .landed ≡ d .counts .landed
-unfolding complete full-word hold overrun count-word discard with-capture
-complete-landed none d = refl
-complete-landed (some v) d = either (λ (c : Completed). c .device .counts .landed ≡ d .counts .landed) (ltb (d .fifo .held) depth) refl refl
-
 pub landing-of-step : (d : Device) (b : List ℕ) (w : ℕ) → step d b w .landing ≡ landing-told d (step d b w .device)
 unfolding step after-grant with-capture landing-told grant landed count-sample
 landing-of-step d b w =
-    rw complete-landed
+    rw (complete-untouched _ _ .landed)
     (either (λ (g : Granted). g .landing ≡ cond (eqb (g .device .counts .landed) (d .counts .landed)) none (some (4 * d .place)))
     (lands (count-sample d) b w)
     (let more : (d .counts .landed + 1 ≡ d .counts .landed) → ⊥ = λ e. omega arith in rw (ne-eqb (d .counts .landed + 1) (d .counts .landed) more))
@@ -59,5 +53,5 @@ packing-of-complete d e (some v) same kept slots =
 pub packing-of-step : (d : Device) (b : List ℕ) (w : ℕ) → Slots d → step d b w .packed ≡ packing-told d (step d b w .device)
 unfolding step after-grant with-capture count-sample
 packing-of-step d b w slots =
-    let left = grant-leaves (count-sample d) b w in
+    let left = grant-untouched (count-sample d) b w in
     packing-of-complete d _ _ (left .completed) (left .discarded) (grant-slots (count-sample d) b w slots)

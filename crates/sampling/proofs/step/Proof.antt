@@ -4,6 +4,7 @@ use borrow.Author.Needs.{needs}
 use mathlib.Core.Logic.{⊎-elim}
 use mathlib.Core.Path.{_≡_, refl, ap, sym, _∙_}
 use native.Mathlib.Omega.{arith}
+use Rattle.laws.proofs.Untouched.{grant-untouched}
 use Rattle.rules.specs.Capture as rules
 use Rattle.rules.specs.Queue.{grant}
 use Rattle.rules.specs.Run.{Ran, count-sample, after-grant}
@@ -11,7 +12,7 @@ use Rattle.rules.specs.State.{with-pins, with-capture}
 use Rattle.sampling.specs.Answers.{stepped}
 use Rattle.sampling.specs.Parts.{granted, remember-pins}
 use Rattle.sampling.proofs.Edges.{no-grant, edge-after, rest-after, sampled}
-use Rattle.sampling.proofs.Laws.{counted, grant-leaves, more-lines}
+use Rattle.sampling.proofs.Laws.{counted, more-lines}
 use Rattle.sampling.proofs.step.Statement.{statement}
 use Rattle.sampling.proofs.step.Tie as tie
 
@@ -43,7 +44,7 @@ unfolding count-sample
 at-edge-requires c κs =
     let pre = c .before .before .before .before .before .before .pre in
     let a = c .before .before .before .before .before .before .args in
-    let leaves = grant-leaves (count-sample (a .d)) (a .buffer .now) (a .w) in
+    let leaves = grant-untouched (count-sample (a .d)) (a .buffer .now) (a .w) in
     let held = leaves .held in
     rw (ap (λ (x : Ran). x .device) (left (c .before .before)), leaves .capture, leaves .completed, leaves .discarded) (
       more-lines (omega (arith, pre .1)) (pre .0 .capture),
