@@ -16,7 +16,7 @@ use Rattle.rules.specs.declared.Frame.the-variants.{Closed, Open}
 use Rattle.rules.specs.declared.Capture.{Capture}
 use Rattle.rules.specs.State.{not-blanking, raise, with-registers, with-ris}
 use Rattle.rules.specs.Capture.{no-word, vsync-flag, line-flag, sync-flags, frame-end, rate-period, frame-start, width, lane, per-word, packed-bits, pixel-in, pixel-edge, at-edge}
-use Rattle.refusals.proofs.Booleans.{or-false}
+use Rattle.bits.proofs.Booleans.{or-false}
 use Rattle.rules.proofs.Booleans.{either, imp-and-false}
 use Rattle.rules.proofs.WellFormed.{CaptureOk}
 use Rattle.laws.proofs.Packing.{layout, used, packed-partial, packed-full}

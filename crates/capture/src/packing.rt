@@ -2,13 +2,14 @@
 ghost use mathlib.Core.Path.{_≡_};
 ghost use Prim.Native.Nat.{_+_, _*_, _%_, _<_, _^_};
 ghost use Rattle.rules.specs.Capture as rules;
+ghost use Rattle.samples.specs.Samples as samples;
 ghost use Rattle.capture.specs.Answers.{captured as meant};
 use crate::Captured;
 use crate::Word;
-use crate::syncs::pixel_data;
 use registers::control;
 use rules::Capture;
 use rules::Partial;
+use samples::pixel_data;
 
 // How many data bits a pixel has.
 pub fn width(cr: u32) -> u32
@@ -39,7 +40,7 @@ pub fn per_word(cr: u32) -> u32
 
 // The data bits that are kept of a sample.
 fn kept(cr: u32, w: u32) -> u32
-    ensures { λ r. ⌜ r ≡ rules.pixel-data w % 2 ^ rules.width cr ⌝ }
+    ensures { λ r. ⌜ r ≡ samples.pixel-data w % 2 ^ rules.width cr ⌝ }
 {
     let edm = control::edm(cr);
     let data = pixel_data(w);

@@ -1,4 +1,4 @@
-// A sample's fields, and rules 2 and 3: the working edge, blanking, and the flags VSYNC and LINE.
+// Rules 2 and 3: the working edge, blanking, and the flags VSYNC and LINE.
 ghost use mathlib.Core.Bool.{cond, _||_, Bool·beq};
 ghost use mathlib.Core.Path.{_≡_};
 ghost use Prim.Native.Nat.{_+_, _/_, _%_, _<_, _≤_, _^_};
@@ -8,36 +8,9 @@ ghost use Rattle.rules.specs.Capture as rules;
 use registers::control;
 use rules::Capture;
 use rules::Syncs;
-
-pub fn pixel_data(w: u32) -> u32
-    ensures { λ r. ⌜ r ≡ rules.pixel-data w ⌝ }
-{
-    w % 16384
-}
-
-pub fn hsync_pin(w: u32) -> bool
-    ensures { λ r. ⌜ r ≡ rules.hsync-pin w ⌝ }
-{
-    w / 16384 % 2 == 1
-}
-
-pub fn vsync_pin(w: u32) -> bool
-    ensures { λ r. ⌜ r ≡ rules.vsync-pin w ⌝ }
-{
-    w / 32768 % 2 == 1
-}
-
-pub fn clock_pin(w: u32) -> bool
-    ensures { λ r. ⌜ r ≡ rules.clock-pin w ⌝ }
-{
-    w / 65536 % 2 == 1
-}
-
-pub fn bus_grant(w: u32) -> bool
-    ensures { λ r. ⌜ r ≡ rules.bus-grant w ⌝ }
-{
-    w / 131072 % 2 == 1
-}
+use samples::clock_pin;
+use samples::hsync_pin;
+use samples::vsync_pin;
 
 // Rule 2: the clock fell (PCKPOL 0) or rose (PCKPOL 1) since the last sample, with ENABLE 1.
 pub fn working_edge(s: Capture, w: u32) -> bool

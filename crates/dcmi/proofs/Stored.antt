@@ -5,7 +5,7 @@ use mathlib.Core.Path.{_≡_, ap, _∙_}
 use Prim.Native.Nat.{ℕ}
 use Rattle.rules.specs.Run.{RunResult, SampleResult}
 use Rattle.device.specs.Answers as device
-use Rattle.device.specs.declared.Written.{Written}
+use Rattle.device.specs.declared.Changed.{Changed}
 use Rattle.device.specs.declared.Sampled.{Sampled}
 use Rattle.files.specs.Answers as files
 use Rattle.files.specs.File.{FileResult}
@@ -15,7 +15,7 @@ use Rattle.trace.specs.Writing.{WriteResult}
 use Rattle.trace.specs.declared.Written.{Written as Encoding}
 use Rattle.dcmi.specs.Calls.{Called, called, changed, run-called, ran, file-stored, file-left, SampleStored, sample-called, sample-stored, sample-left, Got, gave, got, encoded}
 
-pub run-stored : {number : ℕ} {image′ : List ℕ} {r : RunResult} (image memory′ : List ℕ) (w : Written) → called number image′ ≡ changed image (device.written w) → device.ran w memory′ ≡ r
+pub run-stored : {number : ℕ} {image′ : List ℕ} {r : RunResult} (image memory′ : List ℕ) (w : Changed) → called number image′ ≡ changed image (device.changed w) → device.ran w memory′ ≡ r
     → run-called number image′ memory′ ≡ ran image r
 run-stored image memory′ w e f = ap (λ (x : Called). file-left x memory′) e ∙ ap (λ (x : RunResult). ran image x) f
 

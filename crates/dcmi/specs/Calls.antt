@@ -16,7 +16,7 @@ use Rattle.trace.specs.declared.Write.{Write}
 use Rattle.trace.specs.Reading as reading
 use Rattle.trace.specs.Writing as writing
 use Rattle.files.specs.File as files
-use Rattle.image.specs.Image.{flag, image-of, encodes, device-of}
+use Rattle.device_words.specs.Image.{flag, image-of, encodes, device-of}
 
 -- The number, and the image that is left.
 pub record Called : Type 0 where

@@ -8,24 +8,24 @@ ghost use Rattle.sampling.specs.Answers as sample-answers;
 ghost use Rattle.trace.specs.Answers as trace-answers;
 ghost use Rattle.trace.specs.Writing as writing;
 ghost use Rattle.dcmi.specs.Calls as calls;
-use device::Line;
+use device::Changed;
+use device::InterruptLine;
 use device::Outcome;
 use device::Reading;
 use device::Reply;
 use device::Sampled;
-use device::Written;
+use device_words::device_of;
+use device_words::encodes;
+use device_words::image_of;
 use files::Ran;
-use image::device_of;
-use image::encodes;
-use image::image_of;
 use sampling::Landing;
 use sampling::Packing;
 use trace::Item;
 use trace::Read;
 
 // The image after a call that changes the device.
-fn store(image: &mut [u32; 26], after: Written) -> u32
-    ensures { λ r. ⌜ calls.called r (now (image .exit)) ≡ calls.changed (now (image .entry)) (answers.written after) ⌝ }
+fn store(image: &mut [u32; 26], after: Changed) -> u32
+    ensures { λ r. ⌜ calls.called r (now (image .exit)) ≡ calls.changed (now (image .entry)) (answers.changed after) ⌝ }
 {
     let outcome = after.outcome;
     match outcome {
@@ -103,19 +103,19 @@ pub extern "C" fn dcmi_read(image: &[u32; 26], offset: u32, value: &mut u32) -> 
     1
 }
 
-fn put_line(line: Line, level: &mut u32) -> u32
+fn put_line(line: InterruptLine, level: &mut u32) -> u32
     ensures { λ r. ⌜ calls.gave r (now (level .exit)) ≡ calls.got-line (now (level .entry)) (answers.line line) ⌝ }
 {
     match line {
-        Line::Up => {
+        InterruptLine::Up => {
             *level = 1;
             return 0;
         }
-        Line::Down => {
+        InterruptLine::Down => {
             *level = 0;
             return 0;
         }
-        Line::Refused(refusal) => {
+        InterruptLine::Refused(refusal) => {
             return refusal.number();
         }
     }

@@ -14,7 +14,7 @@ use Rattle.queue.specs.Queue.{Queue, leave, arrive}
 use Rattle.rules.specs.declared.Fifo.{Fifo}
 use Rattle.rules.specs.declared.Device.{Device}
 use Rattle.rules.specs.State.{depth}
-use Rattle.rules.specs.Capture.{bus-grant}
+use Rattle.samples.specs.Samples.{bus-grant}
 use Rattle.rules.specs.Queue.{pop, push, room, stored, lands, landed, grant, Completed, completed, nothing, count-word, hold, full-word, complete}
 use Rattle.rules.proofs.Booleans.{imp-and-false}
 use Rattle.delivery.specs.Delivery.{contents}

@@ -9,7 +9,8 @@ use lib.ListN.{length, take}
 use Rattle.queue.specs.Queue.{Input}
 use Rattle.queue.specs.Queue as queue
 use Rattle.rules.specs.declared.Capture.{Capture}
-use Rattle.rules.specs.Capture.{bus-grant, capture-sample}
+use Rattle.rules.specs.Capture.{capture-sample}
+use Rattle.samples.specs.Samples.{bus-grant}
 use Rattle.delivery.specs.Noted.{note, noted, words}
 use Rattle.delivery.specs.Delivery.{grants}
 

@@ -12,7 +12,7 @@ use borrow.Author.Tests.{eqb-true, ltb-false}
 use Rattle.refusals.specs.Refusals.{_⇒_, refused, answered}
 use Rattle.rules.specs.Queue.{Packed}
 use Rattle.rules.specs.WellFormed.{malformed}
-use Rattle.refusals.specs.Samples.{any-bad}
+use Rattle.samples.specs.Samples.{any-bad}
 use Rattle.rules.specs.Run.{step, Ran, steps, run-refusal, run, SampleAnswer, sample}
 use Rattle.refusals.proofs.Accepted.{accepted as passed}
 use Rattle.delivery.specs.Calls.{Call, a-run, a-sample, brings, System, accepted, after-call, said, says}

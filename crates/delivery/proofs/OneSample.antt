@@ -12,7 +12,8 @@ use Rattle.queue.specs.Queue.{Input, Queue, leave, sample}
 use Rattle.rules.specs.declared.Capture.{Capture}
 use Rattle.rules.specs.declared.Device.{Device}
 use Rattle.rules.specs.State.{depth, with-capture}
-use Rattle.rules.specs.Capture.{bus-grant, capture-sample}
+use Rattle.rules.specs.Capture.{capture-sample}
+use Rattle.samples.specs.Samples.{bus-grant}
 use Rattle.rules.specs.Queue.{grant, Packed, completed, nothing, count-word, hold}
 use Rattle.rules.specs.Run.{count-sample, after-grant, step}
 use Rattle.rules.proofs.WellFormed.{WellFormed}

@@ -8,7 +8,7 @@ use native.Mathlib.Omega.{arith}
 use lib.Dec.{ltb, leb}
 use lib.ListN.{length, take, drop, length-drop}
 use borrow.Author.Tests.{leb-true, le-ltb}
-use Rattle.registers.specs.Bits.{bit}
+use Rattle.bits.specs.Bits.{bit}
 use Rattle.registers.specs.Control.{unsupported}
 use Rattle.registers.specs.Map.{register-at}
 use Rattle.rules.specs.State.{fresh, depth, raised, lowered, with-cr, with-ris, with-ier, with-cwstrt, with-cwsize, with-registers, with-pins, with-syncs, with-frame, with-rate, with-partial, raise, clear-capture, close-frame, with-capture}
@@ -16,9 +16,9 @@ use Rattle.rules.specs.Capture.{no-word, working-edge, remember-pins, blanking,
 use Rattle.rules.specs.Queue.{pop, push, bytes, room, stored, lands, landed, grant, discard, count-word, hold, lose-frame, overrun, full-word, complete}
 use Rattle.rules.specs.WellFormed.{all-zero, bad-fifo, unused-bits, full-partial, excluded, bad-flags, active-disabled, partial-outside, bad-rate, above-samples, bad-place, bad-counts, malformed}
 use Rattle.rules.specs.RegisterCalls.{changes-setup, write-refusal, enabling, disabling, switch-enable, capture-rises, switch-capture, write-control, clear-flags, write-register, write-at, write}
-use Rattle.refusals.specs.Samples.{bad-sample, any-bad}
+use Rattle.samples.specs.Samples.{bad-sample, any-bad}
 use Rattle.rules.specs.Run.{count-sample, after-grant, step, steps, run-refusal, run, in-memory, sample}
-use Rattle.refusals.proofs.Booleans.{and-true}
+use Rattle.bits.proofs.Booleans.{and-true}
 use Rattle.delivery.specs.Calls.{Write, written, Call, System, accepted, after-call, samples, inside, moments}
 use Rattle.delivery.specs.Noted.{write-found, noted-write, noted-writes, note, noted, spacing}
 use Rattle.delivery.specs.Delivery.{contents, grants, Scenario, set-up, trace, distance, noted-by, Premises}

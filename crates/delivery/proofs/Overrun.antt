@@ -6,7 +6,7 @@ use mathlib.Core.Path.{_≡_, _∙_}
 use Prim.Native.Nat.{ℕ}
 use native.Mathlib.Omega.{arith}
 use lib.Dec.{eqb}
-use Rattle.registers.specs.Bits.{bit}
+use Rattle.bits.specs.Bits.{bit}
 use Rattle.registers.specs.Control.{enable}
 use Rattle.registers.specs.Map.{register-at}
 use Rattle.registers.specs.declared.Register.{Register}

@@ -6,12 +6,13 @@ use mathlib.Core.Path.{_≡_, refl}
 use Prim.Native.Nat.{ℕ, _+_, _*_, _/_, _%_, _≤_}
 use native.Mathlib.Omega.{arith}
 use lib.Dec.{eqb}
-use Rattle.registers.specs.Bits.{bit, field}
+use Rattle.bits.specs.Bits.{bit, field}
 use Rattle.registers.specs.Control.{pckpol, edm, enable}
 use Rattle.rules.specs.declared.Capture.{Capture}
 use Rattle.rules.specs.State.{with-pins, with-syncs}
-use Rattle.rules.specs.Capture.{clock-pin, Captured, no-word, working-edge, remember-pins, blanking, per-word, at-edge, remember, capture-sample}
-use Rattle.refusals.proofs.Booleans.{and-true}
+use Rattle.rules.specs.Capture.{Captured, no-word, working-edge, remember-pins, blanking, per-word, at-edge, remember, capture-sample}
+use Rattle.samples.specs.Samples.{clock-pin}
+use Rattle.bits.proofs.Booleans.{and-true}
 use Rattle.rules.proofs.Booleans.{by-cond, either}
 use Rattle.delivery.specs.Noted.{spacing}
 use Rattle.delivery.proofs.Moved.{Paced, Moved, at-edge-moved}

@@ -6,7 +6,7 @@ use mathlib.Core.Path.{_≡_, refl, ap}
 use Prim.Native.Nat.{ℕ, zero, suc, _+_, _*_, _/_, _%_}
 use native.Mathlib.Omega.{arith}
 use lib.ListN.{length, replicate}
-use Rattle.registers.specs.Bits.{bit}
+use Rattle.bits.specs.Bits.{bit}
 use Rattle.delivery.specs.Calls.{Write, a-run}
 use Rattle.delivery.specs.Delivery.{Scenario, set-up, trace, noted-by}
 use Rattle.delivery.proofs.Outcome.{Windows, final, Outcome, outcome, windows, twelve-bits}

@@ -6,10 +6,11 @@ use mathlib.Core.Path.{_≡_, refl, _∙_}
 use Prim.Native.Nat.{ℕ, zero, suc, _+_, _≤_, _<_}
 use native.Mathlib.Omega.{arith}
 use lib.ListN.{length, take, drop, length-take}
-use Rattle.registers.specs.Bits.{field}
+use Rattle.bits.specs.Bits.{field}
 use Rattle.queue.specs.Queue.{Spaced, words}
 use Rattle.rules.specs.declared.Capture.{Capture}
-use Rattle.rules.specs.Capture.{bus-grant, capture-sample}
+use Rattle.rules.specs.Capture.{capture-sample}
+use Rattle.samples.specs.Samples.{bus-grant}
 use Rattle.laws.proofs.RegisterValues.{same-edm}
 use Rattle.delivery.specs.Noted.{spacing}
 use Rattle.delivery.proofs.Inputs.{inputs, captures, inputs-take}

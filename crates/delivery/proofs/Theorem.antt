@@ -8,7 +8,7 @@ use native.Mathlib.Omega.{arith}
 use lib.Dec.{eqb}
 use lib.ListN.{length, take, drop, length-append, length-drop}
 use lib.Seq.{append-snoc, take-length, take-at}
-use Rattle.registers.specs.Bits.{bit}
+use Rattle.bits.specs.Bits.{bit}
 use Rattle.registers.specs.Control.{edm}
 use Rattle.queue.specs.Queue as queue
 use Rattle.queue.specs.Queue.{Granted, Spaced}

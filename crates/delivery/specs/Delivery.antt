@@ -5,11 +5,11 @@ use mathlib.Core.Option.{some}
 use mathlib.Core.Path.{_≡_}
 use Prim.Native.Nat.{ℕ, _+_, _-_, _*_, _≤_, _<_}
 use lib.ListN.{length, take, drop}
-use Rattle.registers.specs.Bits.{bit}
+use Rattle.bits.specs.Bits.{bit}
 use Rattle.rules.specs.declared.Capture.{Capture}
 use Rattle.rules.specs.declared.Fifo.{Fifo}
 use Rattle.rules.specs.State.{fresh, depth}
-use Rattle.rules.specs.Capture.{bus-grant}
+use Rattle.samples.specs.Samples.{bus-grant}
 use Rattle.rules.specs.Queue.{bytes, Packed}
 use Rattle.delivery.specs.Calls.{Write, written, Call, System, samples, Moment, moments}
 use Rattle.delivery.specs.Noted.{Noted, noted-writes, noted, words, noted-at, spacing}

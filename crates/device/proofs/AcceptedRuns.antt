@@ -17,7 +17,7 @@ use Rattle.rules.specs.Queue.{lands, Granted, grant}
 use Rattle.rules.specs.WellFormed.{malformed}
 use Rattle.rules.proofs.Booleans.{by-cond}
 use Rattle.sampling.proofs.Laws.{lands-held}
-use Rattle.refusals.specs.Samples.{any-bad}
+use Rattle.samples.specs.Samples.{any-bad}
 use Rattle.rules.specs.Run.{run-refusal, count-sample, step}
 use Rattle.refusals.proofs.Accepted.{accepted}
 use Rattle.device.specs.Answers.{number}

@@ -3,7 +3,7 @@ use mathlib.Core.Bool.{Bool, true, false}
 use mathlib.Core.List.{List}
 use Prim.Native.Nat.{ℕ}
 use Rattle.refusals.specs.Refusals.{Answer, refused, answered}
-use Rattle.rules.specs.Answers.{Changed}
+use Rattle.rules.specs.Answers as rules
 use Rattle.rules.specs.Run.{RunResult, SampleAnswer, SampleResult}
 use Rattle.sampling.specs.Answers.{landing, packing}
 use Rattle.device.specs.declared.Refusal.{Refusal}
@@ -12,11 +12,11 @@ use Rattle.device.specs.declared.Outcome.{Outcome}
 use Rattle.device.specs.declared.Outcome.the-variants as outcomes
 use Rattle.device.specs.declared.Reading.{Reading}
 use Rattle.device.specs.declared.Reading.the-variants as readings
-use Rattle.device.specs.declared.Line.{Line}
-use Rattle.device.specs.declared.Line.the-variants as levels
+use Rattle.device.specs.declared.InterruptLine.{InterruptLine}
+use Rattle.device.specs.declared.InterruptLine.the-variants as levels
 use Rattle.device.specs.declared.Reply.{Reply}
 use Rattle.device.specs.declared.Reply.the-variants as replies
-use Rattle.device.specs.declared.Written.{Written}
+use Rattle.device.specs.declared.Changed.{Changed}
 use Rattle.device.specs.declared.Sampled.{Sampled}
 
 abbrev pub number : Refusal → ℕ
@@ -41,18 +41,18 @@ reading (readings.Value v) = answered v
 reading (readings.Refused e) = refused (number e)
 
 -- Whether the interrupt line is up, or a refusal.
-abbrev pub line : Line → Answer Bool
+abbrev pub line : InterruptLine → Answer Bool
 line levels.Up = answered true
 line levels.Down = answered false
 line (levels.Refused e) = refused (number e)
 
 -- The number and the device that a call leaves.
-abbrev pub written : Written → Changed
-written w = record { number = outcome (w .outcome); device = w .device }
+abbrev pub changed : Changed → rules.Changed
+changed c = record { number = outcome (c .outcome); device = c .device }
 
 -- With the memory that some samples leave.
-abbrev pub ran : Written → List ℕ → RunResult
-ran w memory = record { number = outcome (w .outcome); device = w .device; memory = memory }
+abbrev pub ran : Changed → List ℕ → RunResult
+ran c memory = record { number = outcome (c .outcome); device = c .device; memory = memory }
 
 -- A sample's two answers, or a refusal.
 abbrev pub reply : Reply → Answer SampleAnswer

@@ -138,21 +138,7 @@ fn write_register(register: Register, v: u32, mut s: Capture) -> Capture
 fn disables(cr: u32, register: Register, v: u32) -> bool
     ensures { λ r. ⌜ r ≡ calls.disables cr register v ⌝ }
 {
-    match register {
-        Register::Control => {
-            if control::enable(cr) {
-                return !control::enable(v);
-            }
-            false
-        }
-        Register::Status => false,
-        Register::RawStatus => false,
-        Register::InterruptEnable => false,
-        Register::MaskedStatus => false,
-        Register::InterruptClear => false,
-        Register::WindowStart => false,
-        Register::WindowSize => false,
-    }
+    register.is_control() && (control::enable(cr) && !control::enable(v))
 }
 
 // An accepted write, of the device.

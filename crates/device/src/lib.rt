@@ -74,7 +74,7 @@ pub enum Reading {
 }
 
 // The interrupt line.
-pub enum Line {
+pub enum InterruptLine {
     Up,
     Down,
     Refused(Refusal),
@@ -87,7 +87,7 @@ pub enum Reply {
 }
 
 // A device after a call, with the answer.
-pub struct Written {
+pub struct Changed {
     pub device: Device,
     pub outcome: Outcome,
 }

@@ -3,11 +3,11 @@ ghost use mathlib.Core.Path.{_≡_};
 ghost use Rattle.registers.specs.declared.Found.the-variants.{At};
 ghost use Rattle.rules.specs.RegisterCalls as calls;
 ghost use Rattle.device.specs.Answers as answers;
-use crate::Line;
+use crate::Changed;
+use crate::InterruptLine;
 use crate::Outcome;
 use crate::Reading;
 use crate::Refusal;
-use crate::Written;
 use crate::control_writes::write_at;
 use crate::well_formed::malformed;
 use capture::syncs::blanks;
@@ -94,127 +94,106 @@ pub fn read(d: Device, offset: u32) -> Reading
 fn unsupported_at(register: Register, v: u32) -> bool
     ensures { λ r. ⌜ r ≡ calls.unsupported-at (At register) v ⌝ }
 {
-    match register {
-        Register::Control => control::unsupported(v),
-        Register::Status => false,
-        Register::RawStatus => false,
-        Register::InterruptEnable => false,
-        Register::MaskedStatus => false,
-        Register::InterruptClear => false,
-        Register::WindowStart => false,
-        Register::WindowSize => false,
-    }
+    register.is_control() && control::unsupported(v)
 }
 
 // Whether a CR bit other than 0 and 14 would change.
 fn changes_setup(cr: u32, v: u32) -> bool
     ensures { λ r. ⌜ r ≡ calls.changes-setup cr v ⌝ }
 {
-    if cr / 2 % 8192 != v / 2 % 8192 {
+    if cr / 0x2 % 0x2000 != v / 0x2 % 0x2000 {
         return true;
     }
-    cr / 32768 % 131072 != v / 32768 % 131072
+    cr / 0x8000 % 0x2_0000 != v / 0x8000 % 0x2_0000
 }
 
 fn fixed(cr: u32, register: Register, v: u32) -> bool
     ensures { λ r. ⌜ r ≡ calls.fixed cr register v ⌝ }
 {
-    match register {
-        Register::Control => changes_setup(cr, v),
-        Register::Status => false,
-        Register::RawStatus => false,
-        Register::InterruptEnable => false,
-        Register::MaskedStatus => false,
-        Register::InterruptClear => false,
-        Register::WindowStart => true,
-        Register::WindowSize => true,
-    }
+    register.is_window() || (register.is_control() && changes_setup(cr, v))
 }
 
 // Refusal 6, of a write to a register.
 fn fixed_at(cr: u32, register: Register, v: u32) -> bool
     ensures { λ r. ⌜ r ≡ calls.fixed-at cr (At register) v ⌝ }
 {
-    if control::enable(cr) {
-        return fixed(cr, register, v);
-    }
-    false
+    control::enable(cr) && fixed(cr, register, v)
 }
 
 // A register write: refusals 1 to 6 in order, or its effect.
-pub fn write(d: Device, offset: u32, value: u32) -> Written
-    ensures { λ r. ⌜ answers.written r ≡ calls.write d offset value ⌝ }
+pub fn write(d: Device, offset: u32, value: u32) -> Changed
+    ensures { λ r. ⌜ answers.changed r ≡ calls.write d offset value ⌝ }
 {
     if malformed(d) {
-        return Written {
+        return Changed {
             device: d,
             outcome: Outcome::Refused(Refusal::Malformed),
         };
     }
     let found = Register::at(offset);
     let Found::At(register) = found else {
-        return Written {
+        return Changed {
             device: d,
             outcome: Outcome::Refused(Refusal::NoRegister),
         };
     };
     if no_write(register.access()) {
-        return Written {
+        return Changed {
             device: d,
             outcome: Outcome::Refused(Refusal::AccessKind),
         };
     }
     if register.reserved_set(value) {
-        return Written {
+        return Changed {
             device: d,
             outcome: Outcome::Refused(Refusal::ReservedBit),
         };
     }
     if unsupported_at(register, value) {
-        return Written {
+        return Changed {
             device: d,
             outcome: Outcome::Refused(Refusal::Unsupported),
         };
     }
     if fixed_at(d.capture.registers.cr, register, value) {
-        return Written {
+        return Changed {
             device: d,
             outcome: Outcome::Refused(Refusal::Enabled),
         };
     }
     let after = write_at(d, register, value);
-    Written {
+    Changed {
         device: after,
         outcome: Outcome::Accepted,
     }
 }
 
 // The interrupt line is up exactly if MIS is not 0. Refusal 1.
-pub fn interrupt(d: Device) -> Line
+pub fn interrupt(d: Device) -> InterruptLine
     ensures { λ r. ⌜ answers.line r ≡ calls.interrupt d ⌝ }
 {
     if malformed(d) {
-        return Line::Refused(Refusal::Malformed);
+        return InterruptLine::Refused(Refusal::Malformed);
     }
     if d.capture.registers.ris & d.capture.registers.ier != 0 {
-        return Line::Up;
+        return InterruptLine::Up;
     }
-    Line::Down
+    InterruptLine::Down
 }
 
 // Re-arming: the next word goes to place 0. Refusal 1.
-pub fn rearm(d: Device) -> Written
-    ensures { λ r. ⌜ answers.written r ≡ calls.rearm d ⌝ }
+pub fn rearm(d: Device) -> Changed
+    ensures { λ r. ⌜ answers.changed r ≡ calls.rearm d ⌝ }
 {
     if malformed(d) {
-        return Written {
+        return Changed {
             device: d,
             outcome: Outcome::Refused(Refusal::Malformed),
         };
     }
     let mut after = d;
     after.place = 0;
-    Written {
+    Changed {
         device: after,
         outcome: Outcome::Accepted,
     }

@@ -7,14 +7,14 @@ ghost use lib.ListN.{length};
 ghost use Rattle.rules.specs.Run as rules;
 ghost use Rattle.sampling.specs.Answers.{landing};
 ghost use Rattle.device.specs.Answers as answers;
+use crate::Changed;
 use crate::Outcome;
 use crate::Refusal;
 use crate::Reply;
 use crate::Sampled;
-use crate::Written;
 use crate::well_formed::malformed;
-use refusals::any_bad;
 use rules::Device;
+use samples::any_bad;
 use sampling::Landing;
 use sampling::answers;
 use sampling::steps;
@@ -46,18 +46,18 @@ fn run_refusal(d: Device, memory: &[u8], start: usize, samples: &[u32]) -> Outco
 }
 
 // A run: refused, or the samples in order over the frame buffer, the part of memory from the start byte to its end.
-pub fn run(d: Device, memory: &mut [u8], start: usize, samples: &[u32]) -> Written
+pub fn run(d: Device, memory: &mut [u8], start: usize, samples: &[u32]) -> Changed
     ensures { λ r. ⌜ answers.ran r (now (memory .exit)) ≡ rules.run d (now (memory .entry)) start (now (samples .entry)) ⌝ }
 {
     let outcome = run_refusal(d, memory, start, samples);
     match outcome {
-        Outcome::Refused(refusal) => Written {
+        Outcome::Refused(refusal) => Changed {
             device: d,
             outcome: Outcome::Refused(refusal),
         },
         Outcome::Accepted => {
             let device = steps(d, &mut memory[start..], samples);
-            Written {
+            Changed {
                 device,
                 outcome: Outcome::Accepted,
             }

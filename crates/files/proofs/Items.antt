@@ -15,7 +15,7 @@ use Rattle.trace.specs.declared.Write.{Write as RegisterWrite}
 use Rattle.trace.specs.Answers as answers
 use Rattle.trace.specs.Reading as reading
 use Rattle.trace.proofs.Walk.{clash, write-place, write-found, end-found, refused-found}
-use Rattle.refusals.specs.Samples.{bad-sample}
+use Rattle.samples.specs.Samples.{bad-sample}
 use Rattle.files.specs.Answers.{refuses}
 
 no-write : (i : Item) (w : RegisterWrite) → OneOf (1 ∷ 2 ∷ 3 ∷ []) (tagOf kinds.the-type i) → answers.item i ≡ reading.a-write w → ⊥

@@ -10,10 +10,10 @@ use native.Mathlib.Omega.{arith}
 use lib.ListN.{length, getD}
 use types.Run.{OneOf}
 use denote.Enum.Declared.{tagOf}
-use Rattle.refusals.specs.Samples.{bad-sample, any-bad}
+use Rattle.samples.specs.Samples.{bad-sample, any-bad}
 use Rattle.rules.specs.declared.Device.{Device}
 use Rattle.rules.specs.Run.{steps}
-use Rattle.refusals.proofs.Booleans.{or-false}
+use Rattle.bits.proofs.Booleans.{or-false}
 use Rattle.rules.proofs.WellFormed.{WellFormed}
 use Rattle.sampling.specs.Answers.{stepped}
 use Rattle.sampling.proofs.Going as going

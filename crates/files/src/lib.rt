@@ -8,13 +8,13 @@ ghost use Rattle.rules.specs.RegisterCalls as register-calls;
 ghost use Rattle.rules.specs.Run as rules;
 ghost use Rattle.rules.specs.WellFormed.{malformed};
 ghost use Rattle.rules.proofs.WellFormed.{WellFormed};
-ghost use Rattle.refusals.specs.Samples as samples;
+ghost use Rattle.samples.specs.Samples as samples;
 ghost use Rattle.trace.specs.Reading as reading;
 ghost use Rattle.device.specs.Answers as calls;
 ghost use Rattle.sampling.specs.Answers as sampling;
 ghost use Rattle.files.specs.File as file-rules;
 ghost use Rattle.files.specs.Answers as answers;
-use device::Written;
+use device::Changed;
 use rules::Device;
 use trace::Form;
 use trace::Item;
@@ -53,15 +53,15 @@ pub struct Ran {
 }
 
 // One write of a file.
-fn write_item(d: Device, w: Write) -> Written
-    ensures { λ r. ⌜ calls.written r ≡ register-calls.write d (w .offset) (w .value) ⌝ }
+fn write_item(d: Device, w: Write) -> Changed
+    ensures { λ r. ⌜ calls.changed r ≡ register-calls.write d (w .offset) (w .value) ⌝ }
 {
     device::write(d, w.offset as u32, w.value)
 }
 
 // The writes of a file on a fresh device, up to the first that is refused.
-fn set_up(file: &[u8]) -> Written
-    ensures { λ r. ⌜ calls.written r ≡ file-rules.set-up state.fresh (reading.writes-of (now (file .entry))) ⌝ }
+fn set_up(file: &[u8]) -> Changed
+    ensures { λ r. ⌜ calls.changed r ≡ file-rules.set-up state.fresh (reading.writes-of (now (file .entry))) ⌝ }
     ensures { λ r. ⌜ (malformed (r .device) ≡ false) × (r .device .counts .samples ≡ 0) ⌝ }
 {
     let mut d = device::fresh();
@@ -69,7 +69,7 @@ fn set_up(file: &[u8]) -> Written
     loop {
         let item = item_at(file, place);
         let Item::Write(w) = item else {
-            return Written {
+            return Changed {
                 device: d,
                 outcome: device::Outcome::Accepted,
             };

@@ -11,7 +11,7 @@ use lib.Seq.{drop-nil, drop-drop, drop-set-lt}
 use Rattle.rules.specs.declared.Fifo.{Fifo}
 use Rattle.rules.specs.Queue.{pop, push}
 use Rattle.rules.specs.WellFormed.{all-zero}
-use Rattle.refusals.proofs.Booleans.{and-true}
+use Rattle.bits.proofs.Booleans.{and-true}
 
 -- Zeros with one more behind them; from a place on; and without the first.
 zeros-append : (l : List ℕ) → all-zero l ≡ true → all-zero (l ++ (0 ∷ [])) ≡ true

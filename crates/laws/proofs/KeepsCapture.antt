@@ -17,7 +17,7 @@ use Rattle.rules.specs.declared.Capture.{Capture}
 use Rattle.rules.specs.State.{no-partial, with-pins, with-syncs, with-frame}
 use Rattle.rules.specs.Capture.{Captured, no-word, working-edge, remember-pins, blanking, line-begins, next-pixel, captured, per-word, pack, pixel, pixel-in, pixel-edge, at-edge, remember, capture-sample}
 use Rattle.rules.specs.WellFormed.{is-taken, lines, pixels}
-use Rattle.refusals.proofs.Booleans.{and-true}
+use Rattle.bits.proofs.Booleans.{and-true}
 use Rattle.rules.proofs.Booleans.{by-cond, either}
 use Rattle.rules.proofs.WellFormed.{CaptureOk}
 use Rattle.laws.proofs.Packing.{used, packed-partial}

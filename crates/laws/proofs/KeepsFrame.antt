@@ -14,7 +14,7 @@ use Rattle.rules.specs.declared.Capture.{Capture}
 use Rattle.rules.specs.State.{with-frame, with-rate, raise, clear-capture}
 use Rattle.rules.specs.Capture.{vsync-flag, line-flag, sync-flags, frame-captured, end-of, frame-end, rate-period, next-rate, open-frame, start-of, frame-start}
 use Rattle.rules.specs.WellFormed.{unused-bits, lines, pixels}
-use Rattle.refusals.proofs.Booleans.{and-true}
+use Rattle.bits.proofs.Booleans.{and-true}
 use Rattle.rules.proofs.Booleans.{by-cond, either}
 use Rattle.rules.proofs.WellFormed.{CaptureOk}
 use Rattle.laws.proofs.RegisterValues.{allowed, capture-enable}

@@ -12,11 +12,12 @@ use Rattle.registers.specs.Control.{enable}
 use Rattle.rules.specs.declared.Capture.{Capture}
 use Rattle.rules.specs.declared.Device.{Device}
 use Rattle.rules.specs.State.{depth, with-capture}
-use Rattle.rules.specs.Capture.{bus-grant, capture-sample}
+use Rattle.rules.specs.Capture.{capture-sample}
+use Rattle.samples.specs.Samples.{bus-grant}
 use Rattle.rules.specs.Queue.{pop, push, room, lands, Granted, landed, grant, discard, Completed, count-word, hold, lose-frame, overrun, full-word, complete}
 use Rattle.rules.specs.WellFormed.{all-zero}
 use Rattle.rules.specs.Run.{count-sample, after-grant, step}
-use Rattle.refusals.proofs.Booleans.{and-true}
+use Rattle.bits.proofs.Booleans.{and-true}
 use Rattle.rules.proofs.Booleans.{by-cond}
 use Rattle.rules.proofs.WellFormed.{CaptureOk, QueueOk, WellFormed}
 use Rattle.laws.proofs.CaptureParts.{close-frame-ok}

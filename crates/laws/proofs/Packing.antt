@@ -11,7 +11,8 @@ use lib.Arith.{digits-lt}
 use borrow.Author.Tests.{eqb-true, eq-eqb, not-false}
 use Rattle.registers.specs.Control.{edm}
 use Rattle.rules.specs.declared.Capture.{Capture}
-use Rattle.rules.specs.Capture.{pixel-data, width, lane, per-word, packed-bits}
+use Rattle.rules.specs.Capture.{width, lane, per-word, packed-bits}
+use Rattle.samples.specs.Samples.{pixel-data}
 use Rattle.rules.specs.WellFormed.{unused-bits}
 use Rattle.rules.proofs.Booleans.{not-is-false}
 

@@ -8,14 +8,14 @@ use native.Mathlib.Nat.{div-div-eq-div-mul, pow-succ'}
 use native.Mathlib.Omega.{arith}
 use lib.Dec.{eqb}
 use borrow.Author.Tests.{eqb-true, eqb-false, ne-eqb, not-false}
-use Rattle.registers.specs.Bits.{bit, field}
+use Rattle.bits.specs.Bits.{bit, field}
 use Rattle.registers.specs.Control.{capture, jpeg, embedded, fcrc, edm, enable, unsupported}
 use Rattle.registers.specs.Map.{reserved-set}
 use Rattle.registers.specs.declared.Register.the-variants.{Control, InterruptEnable, WindowStart, WindowSize}
 use Rattle.rules.specs.declared.Registers.{Registers}
 use Rattle.rules.specs.State.{raised, lowered, with-cr}
 use Rattle.rules.specs.WellFormed.{excluded}
-use Rattle.refusals.proofs.Booleans.{or-false}
+use Rattle.bits.proofs.Booleans.{or-false}
 use Rattle.rules.proofs.Booleans.{both-false, and-false, by-cond, None, none, none-any}
 
 bit-true : (k x : ℕ) → bit k x ≡ true → x / 2 ^ k % 2 ≡ 1

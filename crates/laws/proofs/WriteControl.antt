@@ -7,7 +7,7 @@ use native.Mathlib.Nat.{mul-zero}
 use native.Mathlib.Omega.{arith}
 use lib.Pow.{pow-pos}
 use borrow.Author.Tests.{eqb-true, not-false}
-use Rattle.registers.specs.Bits.{field}
+use Rattle.bits.specs.Bits.{field}
 use Rattle.registers.specs.Control.{enable, unsupported}
 use Rattle.registers.specs.Map.{reserved-set}
 use Rattle.registers.specs.declared.Register.the-variants.{Control}
@@ -17,7 +17,7 @@ use Rattle.rules.specs.declared.Capture.{Capture}
 use Rattle.rules.specs.State.{close-frame, with-cr, with-registers, with-syncs, with-frame, with-rate, with-partial}
 use Rattle.rules.specs.WellFormed.{excluded, unused-bits, is-open, lines, pixels}
 use Rattle.rules.specs.RegisterCalls.{changes-setup, enabling, disabling, switch-enable, capture-rises, switch-capture, write-control}
-use Rattle.refusals.proofs.Booleans.{or-false}
+use Rattle.bits.proofs.Booleans.{or-false}
 use Rattle.rules.proofs.Booleans.{and-false, by-cond, either}
 use Rattle.rules.proofs.WellFormed.{CaptureOk}
 use Rattle.laws.proofs.RegisterValues.{allowed-cr}

@@ -10,7 +10,7 @@ use rules::Device;
 
 // A register write.
 pub fn write<'d>(d: &'d mut Device, offset: u32, value: u32) -> Outcome
-    ensures { λ r. ⌜ answers.written (record { device = now (d .exit); outcome = r }) ≡ calls.write (now (d .entry)) offset value ⌝ }
+    ensures { λ r. ⌜ answers.changed (record { device = now (d .exit); outcome = r }) ≡ calls.write (now (d .entry)) offset value ⌝ }
 {
     let after = device::write(*d, offset, value);
     *d = after.device;

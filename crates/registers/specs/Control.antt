@@ -2,7 +2,7 @@
 use mathlib.Core.Bool.{Bool, not, _&&_, _||_}
 use Prim.Native.Nat.{ℕ}
 use lib.Dec.{eqb}
-use Rattle.registers.specs.Bits.{bit, field}
+use Rattle.bits.specs.Bits.{bit, field}
 
 abbrev pub capture : ℕ → Bool
 capture cr = bit 0 cr

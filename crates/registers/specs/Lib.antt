@@ -1,4 +1,3 @@
-pub mod Bits
 pub mod Map
 pub mod Control
 pub mod Window

@@ -1,10 +1,10 @@
 -- The register map: which registers there are, where, how they may be accessed, and which of their bits are reserved
 -- (document 01, "Registers"; 004, 32.5 and table 271).
-use mathlib.Core.Bool.{Bool, false, cond, not, _||_}
+use mathlib.Core.Bool.{Bool, true, false, cond, not, _||_}
 use mathlib.Core.List.{List, [], _∷_}
 use Prim.Native.Nat.{ℕ, _+_, _*_, _-_, _^_}
 use lib.Dec.{eqb}
-use Rattle.registers.specs.Bits.{field}
+use Rattle.bits.specs.Bits.{field}
 use Rattle.registers.specs.declared.Register.{Register}
 use Rattle.registers.specs.declared.Register.the-variants.{Control, Status, RawStatus, InterruptEnable, MaskedStatus, InterruptClear, WindowStart, WindowSize}
 use Rattle.registers.specs.declared.Access.{Access}
@@ -46,6 +46,28 @@ access MaskedStatus = ReadOnly
 access InterruptClear = WriteOnly
 access WindowStart = ReadWrite
 access WindowSize = ReadWrite
+
+-- CR.
+abbrev pub is-control : Register → Bool
+is-control Control = true
+is-control Status = false
+is-control RawStatus = false
+is-control InterruptEnable = false
+is-control MaskedStatus = false
+is-control InterruptClear = false
+is-control WindowStart = false
+is-control WindowSize = false
+
+-- The crop window: CWSTRT and CWSIZE.
+abbrev pub is-window : Register → Bool
+is-window Control = false
+is-window Status = false
+is-window RawStatus = false
+is-window InterruptEnable = false
+is-window MaskedStatus = false
+is-window InterruptClear = false
+is-window WindowStart = true
+is-window WindowSize = true
 
 -- Bits high:low of a register.
 pub record Range : Type 0 where

@@ -11,61 +11,61 @@ pub fn capture(cr: u32) -> bool
 pub fn snapshot(cr: u32) -> bool
     ensures { λ r. ⌜ r ≡ fields.snapshot cr ⌝ }
 {
-    cr / 2 % 2 == 1
+    cr / 0x2 % 2 == 1
 }
 
 pub fn crop(cr: u32) -> bool
     ensures { λ r. ⌜ r ≡ fields.crop cr ⌝ }
 {
-    cr / 4 % 2 == 1
+    cr / 0x4 % 2 == 1
 }
 
 pub fn jpeg(cr: u32) -> bool
     ensures { λ r. ⌜ r ≡ fields.jpeg cr ⌝ }
 {
-    cr / 8 % 2 == 1
+    cr / 0x8 % 2 == 1
 }
 
 pub fn embedded(cr: u32) -> bool
     ensures { λ r. ⌜ r ≡ fields.embedded cr ⌝ }
 {
-    cr / 16 % 2 == 1
+    cr / 0x10 % 2 == 1
 }
 
 pub fn pckpol(cr: u32) -> bool
     ensures { λ r. ⌜ r ≡ fields.pckpol cr ⌝ }
 {
-    cr / 32 % 2 == 1
+    cr / 0x20 % 2 == 1
 }
 
 pub fn hspol(cr: u32) -> bool
     ensures { λ r. ⌜ r ≡ fields.hspol cr ⌝ }
 {
-    cr / 64 % 2 == 1
+    cr / 0x40 % 2 == 1
 }
 
 pub fn vspol(cr: u32) -> bool
     ensures { λ r. ⌜ r ≡ fields.vspol cr ⌝ }
 {
-    cr / 128 % 2 == 1
+    cr / 0x80 % 2 == 1
 }
 
 pub fn fcrc(cr: u32) -> u32
     ensures { λ r. ⌜ r ≡ fields.fcrc cr ⌝ }
 {
-    cr / 256 % 4
+    cr / 0x100 % 4
 }
 
 pub fn edm(cr: u32) -> u32
     ensures { λ r. ⌜ r ≡ fields.edm cr ⌝ }
 {
-    cr / 1024 % 4
+    cr / 0x400 % 4
 }
 
 pub fn enable(cr: u32) -> bool
     ensures { λ r. ⌜ r ≡ fields.enable cr ⌝ }
 {
-    cr / 16384 % 2 == 1
+    cr / 0x4000 % 2 == 1
 }
 
 // Whether the value is one that CR refuses: JPEG, embedded codes, FCRC 3, or CAPTURE without ENABLE.

@@ -1,7 +1,7 @@
 // The register map of the camera interface: the registers with their offsets, access kinds and reserved bits, and the fields of CR,
 // CWSTRT and CWSIZE. Each function answers for every number, and its contract gives the answer by a definition of specs/.
 ghost use mathlib.Core.Path.{_≡_};
-ghost use Rattle.registers.specs.Map.{register-at, access as accessOf, reserved-set, reserved as reservedOf, mask};
+ghost use Rattle.registers.specs.Map.{register-at, access as accessOf, is-control, is-window, reserved-set, reserved as reservedOf, mask};
 
 pub mod control;
 pub mod window;
@@ -95,6 +95,38 @@ impl Register {
         }
     }
 
+    // Whether the register is CR.
+    pub fn is_control(self) -> bool
+        ensures { λ r. ⌜ r ≡ is-control self ⌝ }
+    {
+        match self {
+            Register::Control => true,
+            Register::Status => false,
+            Register::RawStatus => false,
+            Register::InterruptEnable => false,
+            Register::MaskedStatus => false,
+            Register::InterruptClear => false,
+            Register::WindowStart => false,
+            Register::WindowSize => false,
+        }
+    }
+
+    // Whether the register is one of the crop window, CWSTRT or CWSIZE.
+    pub fn is_window(self) -> bool
+        ensures { λ r. ⌜ r ≡ is-window self ⌝ }
+    {
+        match self {
+            Register::Control => false,
+            Register::Status => false,
+            Register::RawStatus => false,
+            Register::InterruptEnable => false,
+            Register::MaskedStatus => false,
+            Register::InterruptClear => false,
+            Register::WindowStart => true,
+            Register::WindowSize => true,
+        }
+    }
+
     // The reserved bits, as a mask.
     pub fn reserved(self) -> u32
         ensures { λ r. ⌜ r ≡ mask (reservedOf self) ⌝ }
@@ -115,30 +147,6 @@ impl Register {
     pub fn reserved_set(self, value: u32) -> bool
         ensures { λ r. ⌜ r ≡ reserved-set self value ⌝ }
     {
-        match self {
-            Register::Control => {
-                if value / 4096 % 4 != 0 {
-                    return true;
-                }
-                value / 32768 % 131072 != 0
-            }
-            Register::Status => value / 8 % 536870912 != 0,
-            Register::RawStatus => value / 32 % 134217728 != 0,
-            Register::InterruptEnable => value / 32 % 134217728 != 0,
-            Register::MaskedStatus => value / 32 % 134217728 != 0,
-            Register::InterruptClear => value / 32 % 134217728 != 0,
-            Register::WindowStart => {
-                if value / 16384 % 4 != 0 {
-                    return true;
-                }
-                value / 536870912 % 8 != 0
-            }
-            Register::WindowSize => {
-                if value / 16384 % 4 != 0 {
-                    return true;
-                }
-                value / 1073741824 % 4 != 0
-            }
-        }
+        value & self.reserved() != 0
     }
 }

@@ -5,23 +5,23 @@ ghost use Rattle.registers.specs.Window as fields;
 pub fn vst(cwstrt: u32) -> u32
     ensures { λ r. ⌜ r ≡ fields.vst cwstrt ⌝ }
 {
-    cwstrt / 65536 % 8192
+    cwstrt / 0x1_0000 % 0x2000
 }
 
 pub fn hoffcnt(cwstrt: u32) -> u32
     ensures { λ r. ⌜ r ≡ fields.hoffcnt cwstrt ⌝ }
 {
-    cwstrt % 16384
+    cwstrt % 0x4000
 }
 
 pub fn vline(cwsize: u32) -> u32
     ensures { λ r. ⌜ r ≡ fields.vline cwsize ⌝ }
 {
-    cwsize / 65536 % 16384
+    cwsize / 0x1_0000 % 0x4000
 }
 
 pub fn capcnt(cwsize: u32) -> u32
     ensures { λ r. ⌜ r ≡ fields.capcnt cwsize ⌝ }
 {
-    cwsize % 16384
+    cwsize % 0x4000
 }

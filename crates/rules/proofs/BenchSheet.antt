@@ -10,7 +10,7 @@ use Rattle.rules.specs.Capture.{no-word, working-edge, remember-pins, bl
 use Rattle.rules.specs.Queue.{pop, push, bytes, room, stored, lands, landed, grant, discard, count-word, hold, lose-frame, overrun, full-word, complete}
 use Rattle.rules.specs.WellFormed.{all-zero, bad-fifo, unused-bits, full-partial, excluded, bad-flags, active-disabled, partial-outside, bad-rate, above-samples, bad-place, bad-counts, malformed}
 use Rattle.rules.specs.RegisterCalls.{status, masked, value, read-refusal, read, changes-setup, write-refusal, enabling, disabling, switch-enable, capture-rises, switch-capture, write-control, clear-flags, write-register, write-at, write, rearmed, rearm}
-use Rattle.refusals.specs.Samples.{bad-sample, any-bad}
+use Rattle.samples.specs.Samples.{bad-sample, any-bad}
 use Rattle.rules.specs.Run.{count-sample, after-grant, step, steps, run-refusal, run}
 use Rattle.registers.specs.Control.{unsupported}
 use Rattle.registers.specs.Map.{register-at}

@@ -4,7 +4,7 @@ use mathlib.Core.List.{List, [], _∷_}
 use mathlib.Core.Path.{_≡_, refl, sym, _∙_}
 use Prim.Native.Nat.{ℕ, _≤_, zero-le}
 use native.Mathlib.Nat.{le-refl}
-use Rattle.refusals.proofs.Booleans.{or-false}
+use Rattle.bits.proofs.Booleans.{or-false}
 use Rattle.rules.specs.WellFormed.{any}
 
 pub both-false : (a b : Bool) → a ≡ false → b ≡ false → a || b ≡ false

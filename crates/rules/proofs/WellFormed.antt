@@ -14,7 +14,7 @@ use Rattle.rules.specs.declared.Device.{Device}
 use Rattle.rules.specs.State.{depth}
 use Rattle.rules.specs.Capture.{per-word, rate-period}
 use Rattle.rules.specs.WellFormed.{all-zero, is-open, is-taken, lines, pixels, bad-fifo, unused-bits, full-partial, excluded, bad-flags, active-disabled, partial-outside, bad-rate, above-samples, bad-place, bad-counts, malformed, any, clauses}
-use Rattle.refusals.proofs.Booleans.{or-false}
+use Rattle.bits.proofs.Booleans.{or-false}
 use Rattle.rules.proofs.Booleans.{both-false, and-false, imp-and-false, not-is-false, not-is-true, None, none, none-any}
 
 -- The capture state's share, with lines and pixels at most n.

@@ -4,31 +4,15 @@ use mathlib.Core.Bool.{Bool, cond, not, _&&_, _||_, Bool·beq}
 use mathlib.Core.Option.{Option, none, some}
 use Prim.Native.Nat.{ℕ, _+_, _-_, _*_, _%_, _^_}
 use lib.Dec.{eqb, ltb, leb}
-use Rattle.registers.specs.Bits.{bit, field}
 use Rattle.registers.specs.Control.{capture, snapshot, crop, pckpol, hspol, vspol, fcrc, edm, enable}
 use Rattle.registers.specs.Window.{vst, hoffcnt, vline, capcnt}
+use Rattle.samples.specs.Samples.{pixel-data, hsync-pin, vsync-pin, clock-pin}
 use Rattle.rules.specs.declared.Syncs.{Syncs}
 use Rattle.rules.specs.declared.Scan.{Scan}
 use Rattle.rules.specs.declared.Frame.{Frame}
 use Rattle.rules.specs.declared.Frame.the-variants.{Closed, Open}
 use Rattle.rules.specs.declared.Capture.{Capture}
 use Rattle.rules.specs.State.{no-partial, raise, clear-capture, close-frame, with-pins, with-syncs, with-frame, with-rate, with-partial}
-
--- A sample: 13:0 data, 14 HSYNC pin, 15 VSYNC pin, 16 pixel clock, 17 bus grant.
-abbrev pub pixel-data : ℕ → ℕ
-pixel-data w = field 13 0 w
-
-abbrev pub hsync-pin : ℕ → Bool
-hsync-pin w = bit 14 w
-
-abbrev pub vsync-pin : ℕ → Bool
-vsync-pin w = bit 15 w
-
-abbrev pub clock-pin : ℕ → Bool
-clock-pin w = bit 16 w
-
-abbrev pub bus-grant : ℕ → Bool
-bus-grant w = bit 17 w
 
 -- What the rules 2 to 8 make of a sample: the state after it, and the full word if there is one.
 pub record Captured : Type 0 where

@@ -10,7 +10,7 @@ use Rattle.rules.specs.declared.Capture.{Capture}
 use Rattle.rules.specs.declared.Fifo.{Fifo}
 use Rattle.rules.specs.declared.Device.{Device}
 use Rattle.rules.specs.State.{depth, empty, raise, clear-capture, close-frame, with-capture}
-use Rattle.rules.specs.Capture.{bus-grant}
+use Rattle.samples.specs.Samples.{bus-grant}
 
 -- The oldest word leaves; a word is taken in behind the others.
 unfoldable pub pop : Fifo → Fifo

@@ -4,9 +4,9 @@ use mathlib.Core.List.{List, [], _∷_}
 use Prim.Native.Nat.{ℕ, _+_, _-_}
 use lib.Bits.{bitAnd}
 use lib.Dec.{eqb, ltb}
-use Rattle.registers.specs.Bits.{field}
+use Rattle.bits.specs.Bits.{field}
 use Rattle.registers.specs.Control.{capture, hspol, vspol, enable, unsupported}
-use Rattle.registers.specs.Map.{register-at, access, reserved-set}
+use Rattle.registers.specs.Map.{register-at, access, is-control, is-window, reserved-set}
 use Rattle.registers.specs.declared.Register.{Register}
 use Rattle.registers.specs.declared.Register.the-variants.{Control, Status, RawStatus, InterruptEnable, MaskedStatus, InterruptClear, WindowStart, WindowSize}
 use Rattle.registers.specs.declared.Access.{Access}
@@ -91,14 +91,7 @@ reserved-at (At r) v = reserved-set r v
 -- Refusal 5: a CR value with JPEG 1, ESS 1, FCRC 3, or CAPTURE 1 and ENABLE 0.
 abbrev pub unsupported-at : Found → ℕ → Bool
 unsupported-at Nothing v = false
-unsupported-at (At Control) v = unsupported v
-unsupported-at (At Status) v = false
-unsupported-at (At RawStatus) v = false
-unsupported-at (At InterruptEnable) v = false
-unsupported-at (At MaskedStatus) v = false
-unsupported-at (At InterruptClear) v = false
-unsupported-at (At WindowStart) v = false
-unsupported-at (At WindowSize) v = false
+unsupported-at (At r) v = is-control r && unsupported v
 
 -- A CR bit other than 0 and 14 would change: bits 13:1 or those above 14.
 unfoldable pub changes-setup : ℕ → ℕ → Bool
@@ -106,14 +99,7 @@ changes-setup cr v = not (eqb (field 13 1 cr) (field 13 1 v)) || not (eqb (field
 
 -- Refusal 6: ENABLE is 1 and CWSTRT or CWSIZE is written, or a CR bit other than 0 and 14 would change.
 abbrev pub fixed : ℕ → Register → ℕ → Bool
-fixed cr Control v = changes-setup cr v
-fixed cr Status v = false
-fixed cr RawStatus v = false
-fixed cr InterruptEnable v = false
-fixed cr MaskedStatus v = false
-fixed cr InterruptClear v = false
-fixed cr WindowStart v = true
-fixed cr WindowSize v = true
+fixed cr r v = is-window r || (is-control r && changes-setup cr v)
 
 abbrev pub fixed-at : ℕ → Found → ℕ → Bool
 fixed-at cr Nothing v = false
@@ -167,14 +153,7 @@ write-register WindowSize v s = with-registers (with-cwsize v (s .registers)) s
 
 -- ENABLE 1 to 0: held words are discarded.
 abbrev pub disables : ℕ → Register → ℕ → Bool
-disables cr Control v = enable cr && not (enable v)
-disables cr Status v = false
-disables cr RawStatus v = false
-disables cr InterruptEnable v = false
-disables cr MaskedStatus v = false
-disables cr InterruptClear v = false
-disables cr WindowStart v = false
-disables cr WindowSize v = false
+disables cr r v = is-control r && enable cr && not (enable v)
 
 -- An accepted register write, of the device.
 unfoldable pub write-at : Device → Found → ℕ → Device

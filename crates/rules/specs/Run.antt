@@ -10,7 +10,7 @@ use Rattle.rules.specs.State.{with-capture}
 use Rattle.rules.specs.Capture.{capture-sample}
 use Rattle.rules.specs.Queue.{grant, Packed, Completed, complete}
 use Rattle.refusals.specs.Refusals.{_⇒_, first, Answer, answer}
-use Rattle.refusals.specs.Samples.{any-bad}
+use Rattle.samples.specs.Samples.{any-bad}
 use Rattle.rules.specs.WellFormed.{malformed}
 
 -- One more sample.

@@ -1,5 +1,6 @@
-// Trace T of the bench sheet, sample by sample: one device is held in `log`, and lent for the write of CR and for each sample. After each call
+// Trace T of the bench sheet, sample by sample: one device is held in `log`, and lent for each sample. After each call
 // its answer and what the device holds are printed, and compared with the stored output.
+ghost use mathlib.Core.List.{[], _∷_};
 ghost use mathlib.Core.Path.{_≡_};
 ghost use Prim.Native.Nat.{_<_};
 ghost use lib.ListN.{getD};
@@ -151,18 +152,27 @@ fn trace_t(i: usize) -> u32
     t[i]
 }
 
-// A write of CR and trace T. The one device is held here, and lent for each call. The device and the memory after them are the rules' own.
+// One sample: the device is lent for it, what it answered and what the device then holds are printed, and the device is handed back.
+fn turn(mut d: Device, memory: &mut [u8], w: u32) -> Device
+    ensures { λ r. ⌜ answers.stepped r (now (memory .exit)) ≡ samples d (now (memory .entry)) (w ∷ []) ⌝ }
+{
+    let reply = lent::sample(&mut d, memory, 0, w);
+    sampled(w, reply, d);
+    d
+}
+
+// A write of CR and trace T. The one device is held here, and lent for each sample. The device and the memory after them are the rules' own.
 fn log(cr: u32, memory: &mut [u8]) -> Device
     ensures { λ r. ⌜ answers.stepped r (now (memory .exit)) ≡ samples (calls.write state.fresh 0x00 cr .device) (now (memory .entry)) trace-t ⌝ }
 {
-    let mut d = device::fresh();
-    let outcome = lent::write(&mut d, Register::CR, cr);
+    let after = device::write(device::fresh(), Register::CR, cr);
+    let outcome = after.outcome;
+    let mut d = after.device;
     written(cr, outcome, d);
     let mut i = 0;
     while i < 8 {
         let w = trace_t(i);
-        let reply = lent::sample(&mut d, memory, 0, w);
-        sampled(w, reply, d);
+        d = turn(d, memory, w);
         i += 1;
     }
     d

@@ -11,7 +11,8 @@ use Rattle.rules.specs.declared.Capture.{Capture}
 use Rattle.rules.specs.declared.Device.{Device}
 use Rattle.rules.specs.State.{depth, raise, clear-capture, close-frame, with-registers, with-pins, with-syncs, with-frame, with-partial, with-capture}
 use Rattle.rules.specs.Capture as rules
-use Rattle.rules.specs.Capture.{bus-grant, working-edge}
+use Rattle.rules.specs.Capture.{working-edge}
+use Rattle.samples.specs.Samples.{bus-grant}
 use Rattle.rules.specs.Queue.{lands, grant, completed, lost, Completed, lose-frame, overrun, discard, count-word, hold, full-word, complete}
 use Rattle.rules.specs.Run.{count-sample, after-grant, step, Ran, steps}
 use Rattle.rules.proofs.WellFormed.{CaptureOk}

@@ -13,10 +13,10 @@ use Rattle.registers.specs.Control.{enable}
 use Rattle.rules.specs.declared.Capture.{Capture}
 use Rattle.rules.specs.declared.Device.{Device}
 use Rattle.rules.specs.State.{with-pins, with-syncs}
-use Rattle.rules.specs.Capture.{bus-grant}
+use Rattle.samples.specs.Samples.{bus-grant}
 use Rattle.rules.specs.Queue.{room, lands}
 use Rattle.rules.specs.Run.{count-sample}
-use Rattle.refusals.proofs.Booleans.{and-true}
+use Rattle.bits.proofs.Booleans.{and-true}
 use Rattle.laws.proofs.CaptureParts.{pins-syncs-ok}
 use Rattle.rules.proofs.WellFormed.{CaptureOk, WellFormed}
 

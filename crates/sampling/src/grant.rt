@@ -9,9 +9,9 @@ ghost use Rattle.sampling.specs.Answers as answers;
 ghost use Rattle.sampling.specs.Parts as parts;
 use crate::fifo::oldest;
 use crate::fifo::pop;
-use capture::syncs::bus_grant;
 use registers::control;
 use rules::Device;
+use samples::bus_grant;
 
 // Whether word k has room in a frame buffer of some length.
 fn room(k: u32, buffer: &[u8]) -> bool

@@ -15,12 +15,12 @@ pub mod grant;
 pub mod overrun;
 
 use crate::grant::grant;
-use capture::syncs::bus_grant;
-use capture::syncs::clock_pin;
-use capture::syncs::hsync_pin;
-use capture::syncs::vsync_pin;
 use capture::syncs::working_edge;
 use rules::Device;
+use samples::bus_grant;
+use samples::clock_pin;
+use samples::hsync_pin;
+use samples::vsync_pin;
 
 // Where a word landed: at a byte, if one did.
 pub enum Landing {

@@ -10,7 +10,7 @@ use lib.Seq.{length-take-le, take-length, take-add, drop-drop}
 use lib.Dec.{eqb, ltb}
 use borrow.Author.Tests.{ltb-false, eqb-true, not-false}
 use Rattle.refusals.proofs.Accepted.{accepted}
-use Rattle.refusals.proofs.Booleans.{and-true}
+use Rattle.bits.proofs.Booleans.{and-true}
 use Rattle.refusals.specs.Refusals.{_⇒_}
 use Rattle.trace.specs.Format.{little, write-bytes, sample-bytes, mark, version, header, encode}
 use Rattle.trace.specs.Reading.{field, same, write-count, sample-count, whole, form-refusal, write-at, sample-at, writes-from, samples-from, writes-of, samples-of}

@@ -13,9 +13,9 @@ use lib.ListN.{length, take, drop, replicate}
 use lib.Seq.{take-at}
 use borrow.Author.Tests.{ltb-false, le-ltb, leb-false}
 use Rattle.refusals.proofs.Accepted.{accepted}
-use Rattle.refusals.proofs.Booleans.{or-false}
+use Rattle.bits.proofs.Booleans.{or-false}
 use Rattle.refusals.specs.Refusals.{_⇒_, answered}
-use Rattle.refusals.specs.Samples.{bad-sample, any-bad}
+use Rattle.samples.specs.Samples.{bad-sample, any-bad}
 use Rattle.trace.specs.declared.Write.{Write}
 use Rattle.trace.specs.Format.{encode}
 use Rattle.trace.specs.Reading.{Item, a-write, a-sample, the-end, checked, past, found, read, visits, form-refusal, write-count, sample-count, sample-at, writes-from, samples-from, writes-of, samples-of}

@@ -5,7 +5,7 @@ use Prim.Native.Nat.{ℕ, zero, suc, _+_, _-_, _*_}
 use lib.Dec.{eqb, ltb}
 use lib.ListN.{length, take, drop}
 use Rattle.refusals.specs.Refusals.{_⇒_, first}
-use Rattle.refusals.specs.Samples.{bad-sample}
+use Rattle.samples.specs.Samples.{bad-sample}
 use Rattle.trace.specs.declared.Write.{Write}
 use Rattle.trace.specs.Format.{mark, version}
 

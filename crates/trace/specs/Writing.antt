@@ -5,7 +5,7 @@ use Prim.Native.Nat.{ℕ, zero, suc}
 use lib.Dec.{eqb, ltb}
 use lib.ListN.{length, getD, drop}
 use Rattle.refusals.specs.Refusals.{_⇒_, first, Answer, answer}
-use Rattle.refusals.specs.Samples.{any-bad}
+use Rattle.samples.specs.Samples.{any-bad}
 use Rattle.trace.specs.declared.Write.{Write}
 use Rattle.trace.specs.Format.{encode}
 

@@ -10,7 +10,7 @@ use crate::Item;
 use crate::Read;
 use crate::Refusal;
 use crate::Write;
-use refusals::bad_sample;
+use samples::bad_sample;
 
 fn byte(file: &[u8], at: usize) -> u8
     ensures { λ r. ⌜ r ≡ getD (now (file .entry)) at 0 ⌝ }

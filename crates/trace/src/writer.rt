@@ -10,7 +10,7 @@ ghost use Rattle.trace.specs.Answers as answers;
 use crate::Refusal;
 use crate::Written;
 use crate::cursor::wide;
-use refusals::any_bad;
+use samples::any_bad;
 
 // The n lowest bytes of a number, from a byte on.
 fn put(out: &mut [u8], at: usize, n: usize, x: u32)

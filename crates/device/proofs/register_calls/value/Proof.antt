@@ -1,98 +1,29 @@
 -- `device::register_calls::value` meets its contract. Assumes nothing.
--- Each return unfolds the definition and rewrites by what the calls gave and by the tests on the way there.
+-- In each arm the register is known, and the definition gives what the arm gives.
 use borrow.Author.Needs.{needs}
 use Rattle.rules.specs.RegisterCalls.{value, masked}
 use Rattle.device.proofs.register_calls.value.Statement.{statement}
 use Rattle.device.proofs.register_calls.value.Tie as tie
 
-enum-told : tie.Need-enum-told
-enum-told c = search needs
-
-enum-told-2 : tie.Need-enum-told-2
-enum-told-2 c = search needs
-
-status-requires : tie.Need-status-requires
-status-requires c κs = search needs
-
-enum-told-3 : tie.Need-enum-told-3
-enum-told-3 c = search needs
-
-enum-told-4 : tie.Need-enum-told-4
-enum-told-4 c = search needs
-
-enum-told-5 : tie.Need-enum-told-5
-enum-told-5 c = search needs
-
-enum-told-6 : tie.Need-enum-told-6
-enum-told-6 c = search needs
-
-enum-told-7 : tie.Need-enum-told-7
-enum-told-7 c = search needs
-
-enum-told-8 : tie.Need-enum-told-8
-enum-told-8 c = search needs
-
-returns : tie.Need-returns
-unfolding value
-returns c =
-    rw (c .enum-told .given .1)
-
-returns-2 : tie.Need-returns-2
-unfolding value
-returns-2 c =
-    rw (
-      c .before .enum-told2 .given .1,
-      ← c .status .ensures,
-    )
-
-returns-3 : tie.Need-returns-3
-unfolding value
-returns-3 c =
-    rw (c .enum-told3 .given .1)
-
-returns-4 : tie.Need-returns-4
-unfolding value
-returns-4 c =
-    rw (c .enum-told4 .given .1)
-
-returns-5 : tie.Need-returns-5
-unfolding value masked
-returns-5 c =
-    rw (c .before .enum-told5 .given .1)
-
-returns-6 : tie.Need-returns-6
-unfolding value
-returns-6 c =
-    rw (c .enum-told6 .given .1)
-
-returns-7 : tie.Need-returns-7
-unfolding value
-returns-7 c =
-    rw (c .enum-told7 .given .1)
-
-returns-8 : tie.Need-returns-8
-unfolding value
-returns-8 c =
-    rw (c .enum-told8 .given .1)
-
 pub value-spec : {M : Type 1} → statement M
+unfolding value masked
 value-spec =
     tie.close
     (tie.spec
-    enum-told
-    enum-told-2
-    status-requires
-    enum-told-3
-    enum-told-4
-    enum-told-5
-    enum-told-6
-    enum-told-7
-    enum-told-8
-    returns
-    returns-2
-    returns-3
-    returns-4
-    returns-5
-    returns-6
-    returns-7
-    returns-8)
+    (λ c. search needs)
+    (λ c. search needs)
+    (λ c κs. search needs)
+    (λ c. search needs)
+    (λ c. search needs)
+    (λ c. search needs)
+    (λ c. search needs)
+    (λ c. search needs)
+    (λ c. search needs)
+    (λ c. rw (c .enum-told .given .1))
+    (λ c. rw (c .before .enum-told2 .given .1, ← c .status .ensures))
+    (λ c. rw (c .enum-told3 .given .1))
+    (λ c. rw (c .enum-told4 .given .1))
+    (λ c. rw (c .before .enum-told5 .given .1))
+    (λ c. rw (c .enum-told6 .given .1))
+    (λ c. rw (c .enum-told7 .given .1))
+    (λ c. rw (c .enum-told8 .given .1)))

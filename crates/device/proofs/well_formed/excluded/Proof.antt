@@ -1,7 +1,7 @@
 -- `device::well_formed::excluded` meets its contract. Assumes nothing.
 -- Each return unfolds the definition and rewrites by what the calls gave and by the tests on the way there.
 use borrow.Author.Needs.{needs}
-use Rattle.refusals.proofs.Booleans.{or-unit}
+use Rattle.bits.proofs.Booleans.{or-unit}
 use Rattle.rules.specs.WellFormed.{excluded}
 use Rattle.device.proofs.well_formed.excluded.Statement.{statement}
 use Rattle.device.proofs.well_formed.excluded.Tie as tie

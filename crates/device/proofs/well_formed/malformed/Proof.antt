@@ -2,7 +2,7 @@
 -- Each return unfolds the definition and rewrites by what the calls gave and by the tests on the way there.
 use borrow.Author.Needs.{needs}
 use mathlib.Core.Path.{sym, _∙_}
-use Rattle.refusals.proofs.Booleans.{or-unit, or-true}
+use Rattle.bits.proofs.Booleans.{or-unit, or-true}
 use Rattle.rules.specs.WellFormed.{malformed}
 use Rattle.device.proofs.well_formed.malformed.Statement.{statement}
 use Rattle.device.proofs.well_formed.malformed.Tie as tie

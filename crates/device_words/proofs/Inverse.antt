@@ -1,0 +1,115 @@
+-- A device and its image give each other back: `device-of` and `image-of` are inverse, on devices of four FIFO slots and on images that encode one.
+-- The idea: a flag and its word, and a frame and its three words, give each other back. Assumes nothing.
+use mathlib.Core.Bool.{Bool, true, false, cond, not, _&&_, _||_}
+use mathlib.Core.List.{List, [], _∷_}
+use mathlib.Core.Path.{_≡_, refl, sym, ap, _∙_}
+use Prim.Native.Nat.{ℕ, zero, suc}
+use native.Mathlib.Omega.{arith}
+use lib.Dec.{eqb, leb}
+use lib.ListN.{length, getD}
+use borrow.Author.Tests.{leb-true, eqb-true}
+use Rattle.rules.specs.declared.Frame.{Frame}
+use Rattle.rules.specs.declared.Frame.the-variants.{Closed, Open}
+use Rattle.rules.specs.declared.Device.{Device}
+use Rattle.bits.proofs.Booleans.{and-true}
+use Rattle.device_words.specs.Image.{flag, frame-word, lines-word, pixels-word, image-of, flags-encode, frame-encodes, encodes, frame-of, device-of}
+
+-- A flag and its word.
+flag-back : (b : Bool) → eqb (flag b) 1 ≡ b
+flag-back true = refl
+flag-back false = refl
+
+flag-fits : (b : Bool) → leb (flag b) 1 ≡ true
+flag-fits true = refl
+flag-fits false = refl
+
+word-back : (x : ℕ) → leb x 1 ≡ true → flag (eqb x 1) ≡ x
+word-back zero e = refl
+word-back (suc zero) e = refl
+word-back (suc (suc x)) e = absurd (omega (arith, leb-true (suc (suc x)) 1 e))
+
+-- A frame and its words.
+frame-back : (f : Frame) → frame-of (frame-word f) (lines-word f) (pixels-word f) ≡ f
+unfolding frame-of
+frame-back Closed = refl
+frame-back (Open taken s) = go taken
+  where
+    go : (b : Bool) → cond (eqb (cond b 2 1) 0) Closed (Open (eqb (cond b 2 1) 2) (record { lines = s .lines; pixels = s .pixels })) ≡ Open b s
+    go true = refl
+    go false = refl
+
+frame-fits : (f : Frame) → frame-encodes (frame-word f) (lines-word f) (pixels-word f) ≡ true
+unfolding frame-encodes
+frame-fits Closed = refl
+frame-fits (Open taken s) = go taken
+  where
+    go : (b : Bool) → leb (cond b 2 1) 2 && (not (eqb (cond b 2 1) 0) || (eqb (s .lines) 0 && eqb (s .pixels) 0)) ≡ true
+    go true = refl
+    go false = refl
+
+frame-words-back : (frame lines pixels : ℕ) → frame-encodes frame lines pixels ≡ true
+    → (frame-word (frame-of frame lines pixels) ≡ frame) × (lines-word (frame-of frame lines pixels) ≡ lines) × (pixels-word (frame-of frame lines pixels) ≡ pixels)
+unfolding frame-encodes frame-of
+frame-words-back zero lines pixels e =
+    let (l, p) = and-true (eqb lines 0) (eqb pixels 0) e in
+    (refl, sym (eqb-true lines 0 l), sym (eqb-true pixels 0 p))
+frame-words-back (suc zero) lines pixels e = (refl, refl, refl)
+frame-words-back (suc (suc zero)) lines pixels e = (refl, refl, refl)
+frame-words-back (suc (suc (suc n))) lines pixels e =
+    let (small, rest) = and-true (leb (suc (suc (suc n))) 2) _ e in
+    absurd (omega (arith, leb-true (suc (suc (suc n))) 2 small))
+
+-- A list of known length is the list of its elements.
+elements : List ℕ → ℕ → ℕ → List ℕ
+elements l k zero = []
+elements l k (suc n) = getD l k 0 ∷ elements l (suc k) n
+
+elements-later : (x : ℕ) (l : List ℕ) (k n : ℕ) → elements (x ∷ l) (suc k) n ≡ elements l k n
+unfolding elements
+elements-later x l k zero = refl
+elements-later x l k (suc n) = ap (λ (r : List ℕ). getD l k 0 ∷ r) (elements-later x l (suc k) n)
+
+elements-all : (n : ℕ) (l : List ℕ) → length l ≡ n → elements l 0 n ≡ l
+unfolding elements
+elements-all zero [] e = refl
+elements-all zero (x ∷ l) e = absurd (omega arith)
+elements-all (suc n) [] e = absurd (omega arith)
+elements-all (suc n) (x ∷ l) e = ap (λ (r : List ℕ). x ∷ r) (elements-later x l 0 n ∙ elements-all n l (omega arith))
+
+-- Every device of four slots has an image that encodes it.
+pub device-back : (d : Device) → length (d .fifo .slots) ≡ 4 → device-of (image-of d) ≡ d
+unfolding device-of image-of elements
+device-back d four =
+    rw (
+      flag-back (d .capture .pins .hsync),
+      flag-back (d .capture .pins .vsync),
+      flag-back (d .capture .pins .clock),
+      flag-back (d .capture .syncs .hsync),
+      flag-back (d .capture .syncs .vsync),
+      frame-back (d .capture .frame),
+      elements-all 4 (d .fifo .slots) four,
+    )
+
+pub image-encodes : (d : Device) → encodes (image-of d) ≡ true
+unfolding encodes flags-encode image-of
+image-encodes d =
+    rw (
+      flag-fits (d .capture .pins .hsync),
+      flag-fits (d .capture .pins .vsync),
+      flag-fits (d .capture .pins .clock),
+      flag-fits (d .capture .syncs .hsync),
+      flag-fits (d .capture .syncs .vsync),
+    )
+    (frame-fits (d .capture .frame))
+
+-- Every image that encodes a device is the image of that device: no two images encode one device.
+pub image-back : (w : List ℕ) → length w ≡ 26 → encodes w ≡ true → image-of (device-of w) ≡ w
+unfolding encodes flags-encode image-of device-of elements
+image-back w all e =
+    let (flags, frame) = and-true (flags-encode (getD w 5 0) (getD w 6 0) (getD w 7 0) (getD w 8 0) (getD w 9 0)) (frame-encodes (getD w 10 0) (getD w 11 0) (getD w 12 0)) e in
+    let (a, r) = and-true (leb (getD w 5 0) 1) _ flags in
+    let (b, r′) = and-true (leb (getD w 6 0) 1) _ r in
+    let (c, r″) = and-true (leb (getD w 7 0) 1) _ r′ in
+    let (f, g) = and-true (leb (getD w 8 0) 1) (leb (getD w 9 0) 1) r″ in
+    let (x, y, z) = frame-words-back (getD w 10 0) (getD w 11 0) (getD w 12 0) frame in
+    rw (word-back _ a, word-back _ b, word-back _ c, word-back _ f, word-back _ g, x, y, z) (elements-all 26 w all)
