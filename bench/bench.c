@@ -1,5 +1,6 @@
 /* The cost of a sample: the library through the C header, and the plain C model of tests/c, on the same traces.
- * usage: bench lib|file|model|none WIDTH CROP OVERRUN ROWS [TIMES]
+ * usage: bench lib|file|model|none|nofile WIDTH CROP OVERRUN ROWS [TIMES]
+ * none only makes the trace, nofile makes it and writes its file: what lib and model, and what file, do besides running.
  * WIDTH is 8, 10, 12 or 14; CROP and OVERRUN are 0 or 1; ROWS is the number of rows of 660 pixel clocks, two samples a clock. */
 #include <stdio.h>
 #include <stdlib.h>
@@ -44,14 +45,15 @@ static double seconds(void)
 int main(int count, char **words)
 {
     if (count < 6)
-        return fprintf(stderr, "usage: bench lib|file|model|none WIDTH CROP OVERRUN ROWS [TIMES]\n"), 2;
+        return fprintf(stderr, "usage: bench lib|file|model|none|nofile WIDTH CROP OVERRUN ROWS [TIMES]\n"), 2;
     unsigned width = (unsigned)atoi(words[2]), rows = (unsigned)atoi(words[5]), times = count > 6 ? (unsigned)atoi(words[6]) : 1;
     int crop = atoi(words[3]), overrun = atoi(words[4]);
     if (rows > MOST_ROWS || width < 8 || width > 14)
         return 2;
     uint32_t cr = 0x40E1u | (width - 8) / 2 << 10 | (crop ? 4u : 0), start = 100u << 16 | 100, size = 199u << 16 | 299;
     size_t n = make(rows, overrun);
-    if (!strcmp(words[1], "file") && n > LARGEST_FILE)
+    int filed = !strcmp(words[1], "file") || !strcmp(words[1], "nofile");
+    if (filed && n > LARGEST_FILE)
         n = LARGEST_FILE;
 
     dcmi_writes writes = {crop ? 3 : 1, {DCMI_CR}, {cr}};
@@ -61,7 +63,7 @@ int main(int count, char **words)
         writes.offset[2] = DCMI_CR, writes.value[2] = cr;
     }
     size_t length = 0;
-    if (!strcmp(words[1], "file") && dcmi_trace_write(&writes, samples, n, file, sizeof file, &length))
+    if (filed && dcmi_trace_write(&writes, samples, n, file, sizeof file, &length))
         return 1;
 
     unsigned landed = 0;

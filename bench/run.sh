@@ -8,14 +8,15 @@ rt staticlib dcmi >"$out/staticlib.log" 2>&1
 gcc -std=c11 -O2 -Iinclude -Itests/c bench/bench.c tests/c/model.c target/staticlib/libdcmi.a -o "$out/bench"
 
 counted() { valgrind --tool=callgrind --callgrind-out-file=/dev/null "$out/bench" "$@" 2>&1 | sed -n 's/.*Collected : //p'; }
-# instructions a sample: the run's, less those of making the trace
+# instructions a sample: the run's, less those of making the trace, and of writing its file
 cost() {
-    local which=$1
+    local which=$1 none=none
+    [ "$which" = file ] && none=nofile
     shift
     local samples with without
     samples=$("$out/bench" "$which" "$@" | sed 's/ samples.*//')
     with=$(counted "$which" "$@")
-    without=$(counted none "$@")
+    without=$(counted "$none" "$@")
     awk -v a="$with" -v b="$without" -v n="$samples" 'BEGIN { printf "%.1f", (a - b) / n }'
 }
 took() { "$out/bench" "$@" 20 | sed 's/.* landed, //; s/ ns.*//'; }

@@ -1,8 +1,8 @@
 // The bench sheet, run: each call's answer and what the device and memory hold after it are printed, and compared with the stored output.
 ghost use Prim.Native.Nat.{_<_, _^_};
-use device::Outcome;
 use device::Reading;
 use libc::STDOUT_FILENO;
+use refusals::Outcome;
 use registers::Register;
 use rules::Device;
 

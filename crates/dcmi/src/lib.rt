@@ -10,7 +10,6 @@ ghost use Rattle.trace.specs.Writing as writing;
 ghost use Rattle.dcmi.specs.Calls as calls;
 use device::Changed;
 use device::InterruptLine;
-use device::Outcome;
 use device::Reading;
 use device::Reply;
 use device::Sampled;
@@ -18,6 +17,7 @@ use device_words::device_of;
 use device_words::encodes;
 use device_words::image_of;
 use files::Ran;
+use refusals::Outcome;
 use sampling::Landing;
 use sampling::Packing;
 use trace::Item;
@@ -157,12 +157,12 @@ fn store_ran(image: &mut [u32; 26], after: Ran) -> u32
 {
     let outcome = after.outcome;
     match outcome {
-        files::Outcome::Accepted => {
+        Outcome::Accepted => {
             let d = after.device;
             *image = image_of(d);
             return 0;
         }
-        files::Outcome::Refused(refusal) => {
+        Outcome::Refused(refusal) => {
             return refusal.number();
         }
     }

@@ -2,11 +2,11 @@
 -- The idea: an accepted call has passed each of its tests; a part up to the end is the whole tail. Assumes nothing.
 use mathlib.Core.Bool.{false}
 use mathlib.Core.List.{List, [], _∷_, _++_, append-nil}
-use mathlib.Core.Path.{_≡_, refl}
+use mathlib.Core.Path.{_≡_}
 use mathlib.Core.Option.{some}
 use Prim.Native.Nat.{ℕ, _+_, _-_, _*_, _≤_, _<_, _^_}
 use native.Mathlib.Omega.{arith}
-use lib.Dec.{eqb, ltb}
+use lib.Dec.{ltb}
 use lib.ListN.{length, take, drop, length-drop, drop-of-length-le}
 use lib.Seq.{take-all}
 use borrow.Author.Tests.{ltb-false}
@@ -20,21 +20,6 @@ use Rattle.sampling.proofs.Laws.{lands-held}
 use Rattle.samples.specs.Samples.{any-bad}
 use Rattle.rules.specs.Run.{run-refusal, count-sample, step}
 use Rattle.refusals.proofs.Accepted.{accepted}
-use Rattle.device.specs.Answers.{number}
-use Rattle.device.specs.declared.Refusal.{Refusal}
-use Rattle.device.specs.declared.Refusal.the-variants.{Malformed, NoRegister, AccessKind, ReservedBit, Unsupported, Enabled, SampleBits, SampleCount, StartBeyond}
-
--- No refusal has the number 0.
-pub refused : (e : Refusal) → eqb (number e) 0 ≡ false
-refused Malformed = refl
-refused NoRegister = refl
-refused AccessKind = refl
-refused ReservedBit = refl
-refused Unsupported = refl
-refused Enabled = refl
-refused SampleBits = refl
-refused SampleCount = refl
-refused StartBeyond = refl
 
 pub record AcceptedRun (d : Device) (memory : List ℕ) (start : ℕ) (samples : List ℕ) : Type 0 where
   pub well : malformed d ≡ false

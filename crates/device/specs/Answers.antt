@@ -1,15 +1,12 @@
--- The paper's numbers and values of each case of the answers (document 01, "Refusal numbers").
+-- The paper's values of each case of the answers.
 use mathlib.Core.Bool.{Bool, true, false}
 use mathlib.Core.List.{List}
 use Prim.Native.Nat.{ℕ}
 use Rattle.refusals.specs.Refusals.{Answer, refused, answered}
+use Rattle.refusals.specs.Table.{number, outcome}
 use Rattle.rules.specs.Answers as rules
 use Rattle.rules.specs.Run.{RunResult, SampleAnswer, SampleResult}
 use Rattle.sampling.specs.Answers.{landing, packing}
-use Rattle.device.specs.declared.Refusal.{Refusal}
-use Rattle.device.specs.declared.Refusal.the-variants.{Malformed, NoRegister, AccessKind, ReservedBit, Unsupported, Enabled, SampleBits, SampleCount, StartBeyond}
-use Rattle.device.specs.declared.Outcome.{Outcome}
-use Rattle.device.specs.declared.Outcome.the-variants as outcomes
 use Rattle.device.specs.declared.Reading.{Reading}
 use Rattle.device.specs.declared.Reading.the-variants as readings
 use Rattle.device.specs.declared.InterruptLine.{InterruptLine}
@@ -18,22 +15,6 @@ use Rattle.device.specs.declared.Reply.{Reply}
 use Rattle.device.specs.declared.Reply.the-variants as replies
 use Rattle.device.specs.declared.Changed.{Changed}
 use Rattle.device.specs.declared.Sampled.{Sampled}
-
-abbrev pub number : Refusal → ℕ
-number Malformed = 1
-number NoRegister = 2
-number AccessKind = 3
-number ReservedBit = 4
-number Unsupported = 5
-number Enabled = 6
-number SampleBits = 7
-number SampleCount = 8
-number StartBeyond = 9
-
--- 0 of an accepted call, else the refusal's number.
-abbrev pub outcome : Outcome → ℕ
-outcome outcomes.Accepted = 0
-outcome (outcomes.Refused e) = number e
 
 -- A register's value, or a refusal with its number and no value.
 abbrev pub reading : Reading → Answer ℕ

@@ -3,13 +3,14 @@
 // with a definition of the crate `rules`, and has no `requires`; a refused call returns the device as it was.
 ghost use mathlib.Core.Path.{_≡_};
 ghost use Rattle.rules.specs.State as state;
-ghost use Rattle.device.specs.Answers as answers;
 
 mod control_writes;
 mod register_calls;
 mod runs;
 mod well_formed;
 
+use refusals::Outcome;
+use refusals::Refusal;
 pub use register_calls::interrupt;
 pub use register_calls::read;
 pub use register_calls::rearm;
@@ -28,44 +29,6 @@ pub use runs::sample;
 use sampling::Landing;
 use sampling::Packing;
 pub use well_formed::malformed;
-
-// Why a call is refused.
-pub enum Refusal {
-    Malformed,
-    NoRegister,
-    AccessKind,
-    ReservedBit,
-    Unsupported,
-    Enabled,
-    SampleBits,
-    SampleCount,
-    StartBeyond,
-}
-
-impl Refusal {
-    // The paper's number.
-    pub fn number(self) -> u32
-        ensures { λ r. ⌜ r ≡ answers.number self ⌝ }
-    {
-        match self {
-            Refusal::Malformed => 1,
-            Refusal::NoRegister => 2,
-            Refusal::AccessKind => 3,
-            Refusal::ReservedBit => 4,
-            Refusal::Unsupported => 5,
-            Refusal::Enabled => 6,
-            Refusal::SampleBits => 7,
-            Refusal::SampleCount => 8,
-            Refusal::StartBeyond => 9,
-        }
-    }
-}
-
-// The answer of a call that only changes the device.
-pub enum Outcome {
-    Accepted,
-    Refused(Refusal),
-}
 
 // The answer of a register read.
 pub enum Reading {

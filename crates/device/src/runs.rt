@@ -6,13 +6,14 @@ ghost use lib.Dec.{ltb};
 ghost use lib.ListN.{length};
 ghost use Rattle.rules.specs.Run as rules;
 ghost use Rattle.sampling.specs.Answers.{landing};
+ghost use Rattle.refusals.specs.Table.{outcome};
 ghost use Rattle.device.specs.Answers as answers;
 use crate::Changed;
-use crate::Outcome;
-use crate::Refusal;
 use crate::Reply;
 use crate::Sampled;
 use crate::well_formed::malformed;
+use refusals::Outcome;
+use refusals::Refusal;
 use rules::Device;
 use samples::any_bad;
 use sampling::Landing;
@@ -28,7 +29,7 @@ fn too_many(before: u32, samples: &[u32]) -> bool
 
 // A run's refusals 1, 9, 7, 8 in order.
 fn run_refusal(d: Device, memory: &[u8], start: usize, samples: &[u32]) -> Outcome
-    ensures { λ r. ⌜ answers.outcome r ≡ rules.run-refusal d (now (memory .entry)) start (now (samples .entry)) ⌝ }
+    ensures { λ r. ⌜ outcome r ≡ rules.run-refusal d (now (memory .entry)) start (now (samples .entry)) ⌝ }
 {
     if malformed(d) {
         return Outcome::Refused(Refusal::Malformed);
@@ -40,7 +41,7 @@ fn run_refusal(d: Device, memory: &[u8], start: usize, samples: &[u32]) -> Outco
         return Outcome::Refused(Refusal::SampleBits);
     }
     if too_many(d.counts.samples, samples) {
-        return Outcome::Refused(Refusal::SampleCount);
+        return Outcome::Refused(Refusal::SampleTotal);
     }
     Outcome::Accepted
 }

@@ -1,124 +1,122 @@
--- The samples of a file, one after the other: the test of all of them, and their run.
--- The idea: sample k stands at the k-th place after the writes; what is left begins with it. Assumes nothing.
-use mathlib.Core.Bool.{true, false, true≢false}
-use mathlib.Core.List.{List, [], _∷_}
-use mathlib.Core.Path.{_≡_, sym, ap, _∙_}
-use Prim.Native.Nat.{ℕ, suc, _+_, _-_, _≤_, _<_, _^_}
-use native.Mathlib.Nat.{add-zero, zero-add}
-use native.Mathlib.Numerals.{add-one}
+-- The samples of an accepted file, stretch by stretch: what is left leads to the same end as all of them.
+use mathlib.Core.Bool.{Bool, true, false, cond}
+use mathlib.Core.List.{List, [], _∷_, _++_}
+use mathlib.Core.Path.{_≡_, refl, sym, ap, _∙_}
+use Prim.Native.Nat.{ℕ, zero, suc, _+_, _-_, _≤_, _<_, _^_}
 use native.Mathlib.Omega.{arith}
-use lib.ListN.{length, getD}
-use types.Run.{OneOf}
-use denote.Enum.Declared.{tagOf}
-use Rattle.samples.specs.Samples.{bad-sample, any-bad}
+use lib.Dec.{eqb}
+use lib.ListN.{length, take}
+use lib.Seq.{sets, length-sets, take-at}
+use borrow.Author.Tests.{ne-eqb, eqb-false}
+use Rattle.samples.specs.Samples.{any-bad}
 use Rattle.rules.specs.declared.Device.{Device}
-use Rattle.rules.specs.Run.{steps}
-use Rattle.bits.proofs.Booleans.{or-false}
+use Rattle.rules.specs.Run.{step, Ran, steps}
 use Rattle.rules.proofs.WellFormed.{WellFormed}
+use Rattle.laws.proofs.KeepsQueue.{step-keeps}
 use Rattle.sampling.specs.Answers.{stepped}
-use Rattle.sampling.proofs.Going as going
-use Rattle.trace.proofs.Item as kinds
-use Rattle.trace.specs.declared.Item.{Item}
-use Rattle.trace.specs.Answers as trace
-use Rattle.trace.specs.Reading as reading
-use Rattle.trace.specs.Reading.{write-count, sample-count, sample-at, samples-from, samples-of}
-use Rattle.trace.proofs.Rewritten.{length-samples-of}
-use Rattle.trace.proofs.Walk.{sample-number, sample-found}
-use Rattle.files.specs.Answers.{refuses}
-use Rattle.files.proofs.Items.{Stopped, over, bad, stopped}
+use Rattle.sampling.proofs.Going.{step-samples}
+use Rattle.trace.specs.Reading.{form-refusal, sample-count, samples-from, samples-of, file-refusal}
+use Rattle.trace.specs.Answers as answers
+use Rattle.trace.specs.Stretches.{give}
+use Rattle.trace.specs.declared.Stretch.{Stretch}
+use Rattle.trace.specs.declared.Stretch.the-variants.{Samples, End, Refused}
+use Rattle.refusals.proofs.Numbered.{never-zero}
+use Rattle.refusals.specs.Table.{number}
+use Rattle.refusals.specs.declared.Refusal.{Refusal}
+use Rattle.trace.proofs.Filling.{put-over}
+use Rattle.trace.proofs.Rewritten.{length-samples-from, formed}
+use Rattle.trace.proofs.Stretches.{Part, taken-part, taken-end, taken-never, samples-over}
 
--- What is left from sample k on begins with sample k.
-next : (file : List ℕ) (k : ℕ) → k < sample-count file → samples-from file k (sample-count file - k) ≡ sample-at file k ∷ samples-from file (k + 1) (sample-count file - (k + 1))
-unfolding samples-from
-next file k h =
-    let n : sample-count file - k ≡ suc (sample-count file - (k + 1)) = omega arith in
-    rw (n, add-one)
+-- Samples one after the other: those of two lists are those of the second after those of the first.
+steps-append : (d : Device) (b xs ys : List ℕ) → steps d b (xs ++ ys) ≡ steps (steps d b xs .device) (steps d b xs .buffer) ys
+unfolding steps
+steps-append d b [] ys = refl
+steps-append d b (w ∷ ws) ys = steps-append (step d b w .device) (step d b w .buffer) ws ys
 
-none : (file : List ℕ) (k : ℕ) → sample-count file ≤ k → samples-from file k (sample-count file - k) ≡ []
-unfolding samples-from
-none file k h =
-    let n : sample-count file - k ≡ 0 = omega arith in
-    rw n
+steps-keeps : (d : Device) (b ws : List ℕ) → WellFormed d → WellFormed (steps d b ws .device)
+unfolding steps
+steps-keeps d b [] well = well
+steps-keeps d b (w ∷ ws) well = steps-keeps (step d b w .device) (step d b w .buffer) ws (step-keeps d b w well)
 
--- The test: the samples so far are good, and the place is that of sample k.
-pub record Checking (file : List ℕ) (place : ℕ) : Type 0 where
-  pub k : ℕ
-  pub at : place ≡ write-count file + k
-  pub left : any-bad (samples-from file k (sample-count file - k)) ≡ any-bad (samples-of file)
+steps-samples : (d : Device) (b ws : List ℕ) → steps d b ws .device .counts .samples ≡ d .counts .samples + length ws
+unfolding steps
+steps-samples d b [] = omega arith
+steps-samples d b (w ∷ ws) = steps-samples (step d b w .device) (step d b w .buffer) ws ∙ rw step-samples (omega arith)
 
-pub checking-start : (file : List ℕ) → Checking file (write-count file)
-checking-start file =
-    let all : sample-count file - 0 ≡ sample-count file = omega arith in
-    record { k = 0; at = sym (add-zero (write-count file)); left = rw all }
+-- An accepted file has the right form, and no bad sample.
+pub accepted-file : (f : List ℕ) → file-refusal f ≡ 0 → (form-refusal f ≡ 0) × (any-bad (samples-of f) ≡ false)
+unfolding file-refusal
+accepted-file f e = go (form-refusal f) (any-bad (samples-of f)) e
+  where
+    go : (n : ℕ) (b : Bool) → cond (eqb n 0) (cond b 7 0) n ≡ 0 → (n ≡ 0) × (b ≡ false)
+    go zero true e = absurd (omega arith)
+    go zero false e = (refl, refl)
+    go (suc n) b e = absurd (omega (arith, rw (ne-eqb (suc n) 0 (λ z. absurd (omega arith))) at e))
 
-module _ {file : List ℕ} {place : ℕ} (c : Checking file place) where
-  pub checking-on : (w : ℕ) → reading.item file place ≡ reading.a-sample w → Checking file (place + 1)
-  unfolding any-bad
-  checking-on w e =
-      let (inside, same, good) = sample-found file (c .k) w (ap (reading.item file) (sym (c .at)) ∙ e) in
-      record { k = c .k + 1; at = omega (arith, c .at); left = rw (next file (c .k) inside, same, good) at (c .left) }
+-- A refused file of the right form has a bad sample.
+pub refused-file : (f : List ℕ) (r : Refusal) → form-refusal f ≡ 0 → number r ≡ file-refusal f → (any-bad (samples-of f) ≡ true) × (number r ≡ 7)
+unfolding file-refusal
+refused-file f r form e = go (any-bad (samples-of f)) (rw form at e)
+  where
+    go : (b : Bool) → number r ≡ cond b 7 0 → (b ≡ true) × (number r ≡ 7)
+    go true e = (refl, e)
+    go false e = absurd (eqb-false (number r) 0 (never-zero r) e)
 
-  pub checking-less : (w : ℕ) → reading.item file place ≡ reading.a-sample w → place < write-count file + sample-count file
-  checking-less w e =
-      let (inside, same, good) = sample-found file (c .k) w (ap (reading.item file) (sym (c .at)) ∙ e) in
-      omega (arith, c .at, inside)
+pub record Stepping (f buffer₀ : List ℕ) (d₀ : Device) (buffer : List ℕ) (d : Device) (k : ℕ) (array : List ℕ) : Type 0 where
+  pub same : steps d buffer (samples-from f k (sample-count f - k)) ≡ steps d₀ buffer₀ (samples-of f)
+  pub well : WellFormed d
+  pub count : d .counts .samples ≡ k
+  pub long : length buffer ≡ length buffer₀
+  pub fine : any-bad (samples-from f k (sample-count f - k)) ≡ false
+  pub room : length array ≡ 64
 
-  -- At an item that is no sample, a sample is bad exactly if it is a refusal.
-  pub checking-end : (i : Item) → OneOf (0 ∷ 2 ∷ 3 ∷ []) (tagOf kinds.the-type i) → trace.item i ≡ reading.item file place → refuses i ≡ any-bad (samples-of file)
-  unfolding any-bad
-  checking-end i t e = go (stopped file place (c .k) i (c .at) t e)
-    where
-      go : Stopped file (c .k) i → refuses i ≡ any-bad (samples-of file)
-      go (over passes past) = passes ∙ rw (none file (c .k) past) at (c .left)
-      go (bad refusing inside is-bad) = refusing ∙ rw (next file (c .k) inside, is-bad) at (c .left)
+pub stepping-start : (f buffer array : List ℕ) (d : Device) → WellFormed d → d .counts .samples ≡ 0 → file-refusal f ≡ 0 → length array ≡ 64 → Stepping f buffer d buffer d 0 array
+stepping-start f buffer array d well zero-samples taken room =
+    let all : sample-count f - 0 ≡ sample-count f = omega arith in
+    record { same = rw all; well = well; count = zero-samples; long = refl; fine = rw all (accepted-file f taken .1); room = room }
 
--- The run: the samples so far have been stepped through, and the place is that of sample k.
-pub record Stepping (file buffer₀ : List ℕ) (d₀ : Device) (buffer : List ℕ) (d : Device) (place : ℕ) : Type 0 where
-  pub k : ℕ
-  pub at : place ≡ write-count file + k
-  pub going : going.Going buffer₀ (samples-of file) d₀ buffer d k
-  pub good : any-bad (samples-from file k (sample-count file - k)) ≡ false
+module _ {f buffer₀ : List ℕ} {d₀ : Device} {buffer : List ℕ} {d : Device} {k : ℕ} {array : List ℕ} (s : Stepping f buffer₀ d₀ buffer d k array) where
+  -- What a stretch says here: samples, or the end, and no refusal.
+  module _ (accepted : file-refusal f ≡ 0) {array′ : List ℕ} {told : Stretch} (e : answers.given told array′ ≡ give f k array) where
+    pub stepping-taken : {n : ℕ} → told ≡ Samples n → Part f k array array′ n
+    stepping-taken {n} t = taken-part f k array array′ (accepted-file f accepted .0) (s .fine) n (rw t at e)
 
-pub stepping-start : (file buffer : List ℕ) (d : Device) → WellFormed d → any-bad (samples-of file) ≡ false → Stepping file buffer d buffer d (write-count file)
-stepping-start file buffer d well good =
-    let all : sample-count file - 0 ≡ sample-count file = omega arith in
-    record { k = 0; at = sym (add-zero (write-count file)); going = going.starting buffer (samples-of file) d well; good = rw all good }
+    pub stepping-few : {n : ℕ} → told ≡ Samples n → k + n ≤ 16384
+    stepping-few t = omega (arith, stepping-taken t .within, formed f (accepted-file f accepted .0) .few)
 
-module _ {file buffer₀ : List ℕ} {d₀ : Device} {buffer : List ℕ} {d : Device} {place : ℕ} (s : Stepping file buffer₀ d₀ buffer d place) where
-  module _ (w : ℕ) (e : reading.item file place ≡ reading.a-sample w) where
-    found : (s .k < sample-count file) × (sample-at file (s .k) ≡ w) × (bad-sample w ≡ false)
-    found = sample-found file (s .k) w (ap (reading.item file) (sym (s .at)) ∙ e)
+    pub stepping-over : told ≡ End → sample-count f ≤ k
+    stepping-over t = taken-end f k array array′ (accepted-file f accepted .0) (s .fine) (rw t at e)
 
-    pub stepping-less : place < write-count file + sample-count file
-    stepping-less = omega (arith, s .at, found .0)
+    pub stepping-never : {r : Refusal} → told ≡ Refused r → ⊥
+    stepping-never {r} t = taken-never f k array array′ (accepted-file f accepted .0) (s .fine) r (rw t at e)
 
-    -- What the step asks.
-    pub stepping-asks : d₀ .counts .samples ≡ 0 → sample-count file < 2 ^ 32 → WellFormed d × (d .counts .samples + 1 < 2 ^ 32)
-    stepping-asks z few = (s .going .well, omega (arith, s .going .count, found .0))
+  -- The samples of a stretch are the first of the array.
+  pub stepping-part : (array′ : List ℕ) (n : ℕ) → Part f k array array′ n → take n array′ ≡ samples-from f k n
+  stepping-part array′ n p =
+      let l = length-samples-from f k n in
+      rw (p .front, put-over array (samples-from f k n) n l (omega (arith, p .most, s .room))) (take-at (samples-from f k n) _ n l)
 
-    pub stepping-on : (buffer′ : List ℕ) (d′ : Device) → stepped d′ buffer′ ≡ steps d buffer (w ∷ []) → length buffer′ ≡ length buffer
-        → Stepping file buffer₀ d₀ buffer′ d′ (place + 1)
-    unfolding any-bad
-    stepping-on buffer′ d′ one el =
-        let inside = found .0 in
-        let this : getD (samples-of file) (s .k) 0 ≡ w = sample-number file 0 (sample-count file) (s .k) 0 inside ∙ ap (sample-at file) (zero-add (s .k)) ∙ found .1 in
-        let (now, later) = or-false (bad-sample (sample-at file (s .k))) _ (rw (next file (s .k) inside) at (s .good)) in
-        record {
-          k = s .k + 1;
-          at = omega (arith, s .at);
-          going = going.going-on (s .going) buffer′ d′ (rw (length-samples-of file) inside) (rw this one) el;
-          good = later;
-        }
+  pub stepping-room : (array′ : List ℕ) (n : ℕ) → Part f k array array′ n → n ≤ length array′
+  stepping-room array′ n p = rw (p .front, length-sets) (omega (arith, p .most, s .room))
 
-  -- At an item that is no sample, all of them have been stepped through.
-  pub stepping-end : (i : Item) → OneOf (0 ∷ 2 ∷ 3 ∷ []) (tagOf kinds.the-type i) → trace.item i ≡ reading.item file place
-      → steps d₀ buffer₀ (samples-of file) ≡ stepped d buffer
-  unfolding any-bad
-  stepping-end i t e = go (stopped file place (s .k) i (s .at) t e)
-    where
-      go : Stopped file (s .k) i → steps d₀ buffer₀ (samples-of file) ≡ stepped d buffer
-      go (over passes past) = going.going-end (s .going) (rw (length-samples-of file) past)
-      go (bad refusing inside is-bad) =
-          let (good, later) = or-false (bad-sample (sample-at file (s .k))) _ (rw (next file (s .k) inside) at (s .good)) in
-          let clash : true ≡ false = sym is-bad ∙ good in
-          absurd (true≢false clash)
+  -- They can all be counted.
+  pub stepping-asks : (array′ : List ℕ) (n : ℕ) → Part f k array array′ n → k + n ≤ 16384 → WellFormed d × (d .counts .samples + length (take n array′) < 2 ^ 32)
+  stepping-asks array′ n p few = (s .well, rw (stepping-part array′ n p, length-samples-from f k n) (omega (arith, s .count)))
+
+  pub stepping-on : (array′ buffer′ : List ℕ) (d′ : Device) (n : ℕ) → Part f k array array′ n → stepped d′ buffer′ ≡ steps d buffer (samples-from f k n)
+      → length buffer′ ≡ length buffer → Stepping f buffer₀ d₀ buffer′ d′ (k + n) array′
+  stepping-on array′ buffer′ d′ n p e el =
+      let ed : d′ ≡ steps d buffer (samples-from f k n) .device = ap (λ (x : Ran). x .device) e in
+      let eb : buffer′ ≡ steps d buffer (samples-from f k n) .buffer = ap (λ (x : Ran). x .buffer) e in
+      record {
+        same = rw (ed, eb, ← steps-append, ← p .left) (s .same);
+        well = rw ed (steps-keeps d buffer (samples-from f k n) (s .well));
+        count = rw (ed, steps-samples, length-samples-from) (omega (arith, s .count));
+        long = el ∙ s .long;
+        fine = p .fine;
+        room = rw (p .front, length-sets) (s .room);
+      }
+
+  pub stepping-end : sample-count f ≤ k → steps d₀ buffer₀ (samples-of f) ≡ stepped d buffer
+  unfolding steps
+  stepping-end past = sym (s .same) ∙ ap (λ (ws : List ℕ). steps d buffer ws) (samples-over f k (sample-count f) past)

@@ -2,7 +2,7 @@
 -- The idea: one write takes the head of what is left; a write keeps a device well-formed and counts no sample. Assumes nothing.
 use mathlib.Core.Bool.{false}
 use mathlib.Core.List.{List, _∷_}
-use mathlib.Core.Path.{_≡_, refl, sym}
+use mathlib.Core.Path.{_≡_, refl, sym, _∙_}
 use Prim.Native.Nat.{ℕ, suc, _+_, _-_, _≤_, _<_, _^_}
 use native.Mathlib.Numerals.{add-one}
 use native.Mathlib.Omega.{arith}
@@ -21,7 +21,7 @@ use Rattle.laws.proofs.Keeps.{fresh-well-formed}
 use Rattle.laws.proofs.KeepsWrites.{write-keeps}
 use Rattle.trace.specs.declared.Write.{Write}
 use Rattle.trace.specs.Reading as reading
-use Rattle.trace.proofs.Walk.{write-found}
+use Rattle.trace.proofs.Walk.{write-place}
 use Rattle.files.specs.File.{set-up}
 
 found-samples : (d : Device) (r : Found) (v : ℕ) → write-at d r v .counts .samples ≡ d .counts .samples
@@ -38,43 +38,41 @@ pub record Setting (file : List ℕ) (d : Device) (place : ℕ) : Type 0 where
   pub leads : set-up d (reading.writes-from file place (reading.write-count file - place)) ≡ set-up fresh (reading.writes-of file)
   pub well : malformed d ≡ false
   pub samples : d .counts .samples ≡ 0
-  pub within : place ≤ reading.write-count file
 
 pub starting : (file : List ℕ) → Setting file fresh 0
 unfolding fresh
 starting file =
     let all : reading.write-count file - 0 ≡ reading.write-count file = omega arith in
-    record { leads = rw all; well = fresh-well-formed; samples = refl; within = omega arith }
+    record { leads = rw all; well = fresh-well-formed; samples = refl }
 
 module _ {file : List ℕ} {d : Device} {place : ℕ} (s : Setting file d place) where
   -- A write is taken from the file: the first of what is left.
-  next : place < reading.write-count file
-      → reading.writes-from file place (reading.write-count file - place) ≡ reading.write-at file place ∷ reading.writes-from file (place + 1) (reading.write-count file - (place + 1))
+  next : place < reading.write-count file → (w : Write) → reading.item file place ≡ reading.a-write w
+      → reading.writes-from file place (reading.write-count file - place) ≡ w ∷ reading.writes-from file (place + 1) (reading.write-count file - (place + 1))
   unfolding reading.writes-from
-  next h =
+  next h w e =
       let n : reading.write-count file - place ≡ suc (reading.write-count file - (place + 1)) = omega arith in
-      rw (n, add-one)
+      let told : reading.a-write (reading.write-at file place) ≡ reading.a-write w = sym (write-place file place h) ∙ e in
+      let same : reading.write-at file place ≡ w = cc in
+      rw (n, add-one, same)
 
   -- Either way the device is well-formed and has counted no sample.
   pub setting-keeps : (w : Write) (r : Changed) → w .value < 2 ^ 32 → r ≡ write d (w .offset) (w .value) → (malformed (r .device) ≡ false) × (r .device .counts .samples ≡ 0)
   setting-keeps w r small a = (rw a (write-keeps d (w .offset) (w .value) small (s .well)), rw (a, write-samples) (s .samples))
 
   -- Accepted, the rest of the writes is left.
-  pub setting-on : (w : Write) (r : Changed) → reading.item file place ≡ reading.a-write w → w .value < 2 ^ 32 → r ≡ write d (w .offset) (w .value)
+  pub setting-on : place < reading.write-count file → (w : Write) (r : Changed) → reading.item file place ≡ reading.a-write w → w .value < 2 ^ 32 → r ≡ write d (w .offset) (w .value)
       → r .number ≡ 0 → Setting file (r .device) (place + 1)
   unfolding set-up
-  setting-on w r e small a taken =
-      let (inside, same) = write-found file place w e in
+  setting-on inside w r e small a taken =
       let (well, none) = setting-keeps w r small a in
-      record { leads = rw (next inside, same, ← a, taken) at (s .leads); well = well; samples = none; within = omega (arith, inside) }
+      record { leads = rw (next inside w e, ← a, taken) at (s .leads); well = well; samples = none }
 
   -- Refused, this is the end.
-  pub setting-refused : (w : Write) (r : Changed) → reading.item file place ≡ reading.a-write w → r ≡ write d (w .offset) (w .value) → eqb (r .number) 0 ≡ false
+  pub setting-refused : place < reading.write-count file → (w : Write) (r : Changed) → reading.item file place ≡ reading.a-write w → r ≡ write d (w .offset) (w .value) → eqb (r .number) 0 ≡ false
       → r ≡ set-up fresh (reading.writes-of file)
   unfolding set-up
-  setting-refused w r e a refused =
-      let (inside, same) = write-found file place w e in
-      rw (next inside, same, ← a, refused) at (s .leads)
+  setting-refused inside w r e a refused = rw (next inside w e, ← a, refused) at (s .leads)
 
   -- No write is left.
   pub setting-end : reading.write-count file ≤ place → set-up fresh (reading.writes-of file) ≡ record { number = 0; device = d }

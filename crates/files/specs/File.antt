@@ -3,12 +3,12 @@ use mathlib.Core.Bool.{cond}
 use mathlib.Core.List.{List, [], _∷_}
 use Prim.Native.Nat.{ℕ}
 use lib.Dec.{eqb}
-use Rattle.refusals.specs.Refusals.{Answer, refused, answer}
+use Rattle.refusals.specs.Refusals.{Answer, refused, answered, answer}
 use Rattle.rules.specs.declared.Device.{Device}
 use Rattle.rules.specs.State.{fresh}
 use Rattle.rules.specs.Answers.{Changed}
 use Rattle.rules.specs.RegisterCalls.{write}
-use Rattle.rules.specs.Run.{RunResult, run}
+use Rattle.rules.specs.Run.{Ran, RunResult, run}
 use Rattle.trace.specs.declared.Write.{Write}
 use Rattle.trace.specs.Reading.{form-refusal, writes-of, samples-of}
 
@@ -32,6 +32,10 @@ pub record FileResult : Type 0 where
 
 abbrev pub of-run : RunResult → FileResult
 of-run r = record { answer = answer (r .number) (r .device); memory = r .memory }
+
+-- The answer of an accepted file: device and memory after its samples.
+abbrev pub stepped : Ran → FileResult
+stepped r = record { answer = answered (r .device); memory = r .buffer }
 
 -- 13, 10, 11, 12, 13, the first refused write's number, 9, 7, 8.
 unfoldable pub run-file : List ℕ → List ℕ → ℕ → FileResult

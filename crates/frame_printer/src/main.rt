@@ -3,9 +3,9 @@
 ghost use mathlib.Core.Path.{_≡_};
 ghost use Prim.Native.Nat.{_<_, _^_};
 ghost use Rattle.frame_printer.specs.Text as spelling;
-use files::Outcome;
 use libc::STDIN_FILENO;
 use libc::STDOUT_FILENO;
+use refusals::Outcome;
 use rules::Device;
 
 fn text(t: &[u8]) -> bool {

@@ -4,8 +4,8 @@ ghost use mathlib.Core.Path.{_≡_};
 ghost use Rattle.rules.specs.RegisterCalls as calls;
 ghost use Rattle.rules.specs.Run as rules;
 ghost use Rattle.device.specs.Answers as answers;
-use device::Outcome;
 use device::Reply;
+use refusals::Outcome;
 use rules::Device;
 
 // A register write.

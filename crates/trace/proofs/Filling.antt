@@ -9,8 +9,9 @@ use native.Mathlib.Omega.{arith}
 use lib.ListN.{length, getD, set, drop, length-append, length-drop, drop-of-length-le}
 use lib.Seq.{sets, length-sets, sets-eq, drop-cons}
 use Rattle.trace.specs.declared.Write.{Write}
-use Rattle.trace.specs.Format.{little, write-bytes, sample-bytes, header, encode}
+use Rattle.trace.specs.Format.{header-length, write-size, sample-size, little, write-bytes, sample-bytes, header, encode}
 use Rattle.trace.specs.Writing.{given, given-from}
+use Rattle.trace.specs.Reading.{write-start}
 use Rattle.trace.proofs.Numbers.{length-little}
 use Rattle.trace.proofs.ReadBack.{length-write-bytes, length-sample-bytes, length-header}
 
@@ -66,7 +67,7 @@ no-writes offsets values k n h =
     let e : n - k ≡ 0 = omega arith in
     rw e
 
-pub first-sample : (samples : List ℕ) (k : ℕ) → k < length samples → sample-bytes (drop k samples) ≡ little 3 (getD samples k 0) ++ sample-bytes (drop (k + 1) samples)
+pub first-sample : (samples : List ℕ) (k : ℕ) → k < length samples → sample-bytes (drop k samples) ≡ little sample-size (getD samples k 0) ++ sample-bytes (drop (k + 1) samples)
 unfolding sample-bytes
 first-sample samples k h = rw (drop-cons samples k 0 h, add-one)
 
@@ -82,34 +83,34 @@ length-given offsets values k (suc n) = ap suc (length-given offsets values (suc
 
 -- There is room for the next write, and for the next sample.
 pub write-room : (whole out offsets values : List ℕ) (k n : ℕ)
-    → Filling whole out (8 + 5 * k) (write-bytes (given-from offsets values k (n - k))) → k < n → 8 + 5 * k + 5 ≤ length out
+    → Filling whole out (write-start k) (write-bytes (given-from offsets values k (n - k))) → k < n → write-start k + write-size ≤ length out
 write-room whole out offsets values k n f h =
-    let all : length (write-bytes (given-from offsets values k (n - k))) ≡ 5 * (n - k) = length-write-bytes (given-from offsets values k (n - k)) ∙ ap (λ (x : ℕ). 5 * x) (length-given offsets values k (n - k)) in
+    let all : length (write-bytes (given-from offsets values k (n - k))) ≡ write-size * (n - k) = length-write-bytes (given-from offsets values k (n - k)) ∙ ap (λ (x : ℕ). write-size * x) (length-given offsets values k (n - k)) in
     omega (arith, f .room)
 
 pub sample-room : (whole out samples : List ℕ) (at k : ℕ)
-    → Filling whole out (at + 3 * k) (sample-bytes (drop k samples)) → k < length samples → at + 3 * k + 3 ≤ length out
+    → Filling whole out (at + sample-size * k) (sample-bytes (drop k samples)) → k < length samples → at + sample-size * k + sample-size ≤ length out
 sample-room whole out samples at k f h =
-    let all : length (sample-bytes (drop k samples)) ≡ 3 * (length samples - k) = length-sample-bytes (drop k samples) ∙ ap (λ (x : ℕ). 3 * x) (length-drop k samples) in
+    let all : length (sample-bytes (drop k samples)) ≡ sample-size * (length samples - k) = length-sample-bytes (drop k samples) ∙ ap (λ (x : ℕ). sample-size * x) (length-drop k samples) in
     omega (arith, f .room)
 
 -- One write further, and one sample.
 pub write-on : (whole out out′ offsets values : List ℕ) (k n : ℕ)
-    → Filling whole out (8 + 5 * k) (write-bytes (given-from offsets values k (n - k))) → k < n
-    → out′ ≡ sets out (8 + 5 * k) (little 1 (getD offsets k 0) ++ little 4 (getD values k 0))
-    → Filling whole out′ (8 + 5 * (k + 1)) (write-bytes (given-from offsets values (k + 1) (n - (k + 1))))
+    → Filling whole out (write-start k) (write-bytes (given-from offsets values k (n - k))) → k < n
+    → out′ ≡ sets out (write-start k) (little 1 (getD offsets k 0) ++ little 4 (getD values k 0))
+    → Filling whole out′ (write-start (k + 1)) (write-bytes (given-from offsets values (k + 1) (n - (k + 1))))
 write-on whole out out′ offsets values k n f h e =
     let o : List ℕ = little 1 (getD offsets k 0) in
     let v : List ℕ = little 4 (getD values k 0) in
-    let five : length (o ++ v) ≡ 5 = rw (length-append o v, length-little 1 (getD offsets k 0), length-little 4 (getD values k 0)) in
-    fill-on whole out out′ (8 + 5 * k) (8 + 5 * (k + 1)) _ (o ++ v) _ f (first-write offsets values k n h) e (omega (arith, five))
+    let five : length (o ++ v) ≡ write-size = rw (length-append o v, length-little 1 (getD offsets k 0), length-little 4 (getD values k 0)) in
+    fill-on whole out out′ (write-start k) (write-start (k + 1)) _ (o ++ v) _ f (first-write offsets values k n h) e (omega (arith, five))
 
 pub sample-on : (whole out out′ samples : List ℕ) (at k : ℕ)
-    → Filling whole out (at + 3 * k) (sample-bytes (drop k samples)) → k < length samples
-    → out′ ≡ sets out (at + 3 * k) (little 3 (getD samples k 0))
-    → Filling whole out′ (at + 3 * (k + 1)) (sample-bytes (drop (k + 1) samples))
+    → Filling whole out (at + sample-size * k) (sample-bytes (drop k samples)) → k < length samples
+    → out′ ≡ sets out (at + sample-size * k) (little sample-size (getD samples k 0))
+    → Filling whole out′ (at + sample-size * (k + 1)) (sample-bytes (drop (k + 1) samples))
 sample-on whole out out′ samples at k f h e =
-    fill-on whole out out′ (at + 3 * k) (at + 3 * (k + 1)) _ (little 3 (getD samples k 0)) (sample-bytes (drop (k + 1) samples)) f (first-sample samples k h) e (omega (arith, length-little 3 (getD samples k 0)))
+    fill-on whole out out′ (at + sample-size * k) (at + sample-size * (k + 1)) _ (little sample-size (getD samples k 0)) (sample-bytes (drop (k + 1) samples)) f (first-sample samples k h) e (omega (arith, length-little sample-size (getD samples k 0)))
 
 -- The header's four stretches.
 pub header-put : (out : List ℕ) (writes samples : ℕ)
@@ -118,26 +119,26 @@ unfolding header little
 header-put out writes samples = refl
 
 -- Where the writes, and the samples, begin.
-pub writes-start : (out offsets values : List ℕ) (n : ℕ) → 8 + 5 * n ≤ length out
-    → Filling (sets out 8 (write-bytes (given n offsets values))) out (8 + 5 * 0) (write-bytes (given-from offsets values 0 (n - 0)))
+pub writes-start : (out offsets values : List ℕ) (n : ℕ) → write-start n ≤ length out
+    → Filling (sets out header-length (write-bytes (given n offsets values))) out (write-start 0) (write-bytes (given-from offsets values 0 (n - 0)))
 writes-start out offsets values n h =
     let e : n - 0 ≡ n = omega arith in
     rw e (record { leads = refl; room = rw (length-write-bytes (given n offsets values), length-given offsets values 0 n) h })
 
-pub samples-start : (out samples : List ℕ) (at : ℕ) → at + 3 * length samples ≤ length out
-    → Filling (sets out at (sample-bytes samples)) out (at + 3 * 0) (sample-bytes (drop 0 samples))
+pub samples-start : (out samples : List ℕ) (at : ℕ) → at + sample-size * length samples ≤ length out
+    → Filling (sets out at (sample-bytes samples)) out (at + sample-size * 0) (sample-bytes (drop 0 samples))
 samples-start out samples at h =
-    let e : at + 3 * 0 ≡ at = omega arith in
+    let e : at + sample-size * 0 ≡ at = omega arith in
     rw e (record { leads = refl; room = rw (length-sample-bytes samples) h })
 
 -- The three stretches of a file are put as one, and one that fits lies over the first bytes.
 pub file-put : (out : List ℕ) (ws : List Write) (ss : List ℕ) (writes samples : ℕ) → length ws ≡ writes → length ss ≡ samples
-    → sets (sets (sets out 0 (header writes samples)) 8 (write-bytes ws)) (8 + 5 * writes) (sample-bytes ss) ≡ sets out 0 (encode ws ss)
+    → sets (sets (sets out 0 (header writes samples)) header-length (write-bytes ws)) (write-start writes) (sample-bytes ss) ≡ sets out 0 (encode ws ss)
 unfolding encode
 file-put out ws ss writes samples p q =
     let h : List ℕ = header (length ws) (length ss) in
-    let n : length h ≡ 8 = length-header (length ws) (length ss) in
-    let m : length (h ++ write-bytes ws) ≡ 8 + 5 * length ws = length-append h (write-bytes ws) ∙ rw (n, length-write-bytes ws) in
+    let n : length h ≡ header-length = length-header (length ws) (length ss) in
+    let m : length (h ++ write-bytes ws) ≡ write-start (length ws) = length-append h (write-bytes ws) ∙ rw (n, length-write-bytes ws) in
     sym (rw (sets-append out 0 (h ++ write-bytes ws) (sample-bytes ss), sets-append out 0 h (write-bytes ws), m, n, p, q, zero-add, zero-add))
 
 pub put-over : (out file : List ℕ) (n : ℕ) → length file ≡ n → n ≤ length out → sets out 0 file ≡ file ++ drop n out

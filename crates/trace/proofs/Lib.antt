@@ -5,4 +5,5 @@ pub mod Numbers
 pub mod ReadBack
 pub mod Rewritten
 pub mod RoundTrips
+pub mod Stretches
 pub mod Walk

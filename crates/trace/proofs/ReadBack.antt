@@ -9,8 +9,8 @@ use lib.ListN.{length, take, length-append}
 use lib.Seq.{take-at, drop-at}
 use borrow.Author.Tests.{le-ltb, eq-eqb}
 use Rattle.trace.specs.declared.Write.{Write}
-use Rattle.trace.specs.Format.{little, write-bytes, sample-bytes, mark, version, header, encode}
-use Rattle.trace.specs.Reading.{field, same, write-count, sample-count, whole, form-refusal, write-at, sample-at, writes-from, samples-from, writes-of, samples-of}
+use Rattle.trace.specs.Format.{header-length, write-size, sample-size, little, write-bytes, sample-bytes, mark, version, header, encode}
+use Rattle.trace.specs.Reading.{field, same, write-count, sample-count, whole, form-refusal, write-at, sample-at, writes-from, samples-from, writes-of, samples-of, write-start, sample-start}
 use Rattle.trace.proofs.Numbers.{length-little, number-little}
 
 -- What a trace file can hold.
@@ -33,55 +33,55 @@ pub read-field : (f pre post : List ℕ) (at n x : ℕ) → f ≡ pre ++ (little
 unfolding field
 read-field f pre post at n x e l h = rw (e, drop-at pre (little n x ++ post) at l, take-at (little n x) post n (length-little n x)) (number-little n x h)
 
-write-is : (f : List ℕ) (k : ℕ) (w : Write) → field f (8 + 5 * k) 1 ≡ w .offset → field f (9 + 5 * k) 4 ≡ w .value → write-at f k ≡ w
+write-is : (f : List ℕ) (k : ℕ) (w : Write) → field f (write-start k) 1 ≡ w .offset → field f (write-start k + 1) 4 ≡ w .value → write-at f k ≡ w
 unfolding write-at
 write-is f k w p q = λ i. record { offset = p i; value = q i }
 
 pub read-writes : (ws : List Write) (f pre post : List ℕ) (k : ℕ)
-    → f ≡ pre ++ (write-bytes ws ++ post) → length pre ≡ 8 + 5 * k → WritesFit ws → writes-from f k (length ws) ≡ ws
+    → f ≡ pre ++ (write-bytes ws ++ post) → length pre ≡ write-start k → WritesFit ws → writes-from f k (length ws) ≡ ws
 unfolding write-bytes writes-from
 read-writes [] f pre post k e l h = refl
 read-writes (w ∷ ws) f pre post k e l h =
     let rest : List ℕ = write-bytes ws ++ post in
-    let p : field f (8 + 5 * k) 1 ≡ w .offset
-    = read-field f pre (little 4 (w .value) ++ rest) (8 + 5 * k) 1 (w .offset) (e ∙ simp append-assoc) l (omega (arith, h .0)) in
-    let q : field f (9 + 5 * k) 4 ≡ w .value
-    = read-field f (pre ++ little 1 (w .offset)) rest (9 + 5 * k) 4 (w .value) (e ∙ simp append-assoc) (simp (length-append, length-little) (omega arith)) (omega (arith, h .1)) in
+    let p : field f (write-start k) 1 ≡ w .offset
+    = read-field f pre (little 4 (w .value) ++ rest) (write-start k) 1 (w .offset) (e ∙ simp append-assoc) l (omega (arith, h .0)) in
+    let q : field f (write-start k + 1) 4 ≡ w .value
+    = read-field f (pre ++ little 1 (w .offset)) rest (write-start k + 1) 4 (w .value) (e ∙ simp append-assoc) (simp (length-append, length-little) (omega arith)) (omega (arith, h .1)) in
     let t : writes-from f (suc k) (length ws) ≡ ws
     = read-writes ws f (pre ++ little 1 (w .offset) ++ little 4 (w .value)) post (suc k) (e ∙ simp append-assoc) (simp (length-append, length-little) (omega arith)) (h .2) in
     rw (write-is f k w p q, t)
 
 pub read-samples : (ss : List ℕ) (f pre post : List ℕ) (k : ℕ)
-    → f ≡ pre ++ (sample-bytes ss ++ post) → length pre ≡ 8 + 5 * write-count f + 3 * k → SamplesFit ss → samples-from f k (length ss) ≡ ss
+    → f ≡ pre ++ (sample-bytes ss ++ post) → length pre ≡ sample-start f k → SamplesFit ss → samples-from f k (length ss) ≡ ss
 unfolding sample-bytes samples-from sample-at
 read-samples [] f pre post k e l h = refl
 read-samples (s ∷ ss) f pre post k e l h =
-    let q : field f (8 + 5 * write-count f + 3 * k) 3 ≡ s
-    = read-field f pre (sample-bytes ss ++ post) (8 + 5 * write-count f + 3 * k) 3 s (e ∙ simp append-assoc) l (omega (arith, h .0)) in
+    let q : field f (sample-start f k) sample-size ≡ s
+    = read-field f pre (sample-bytes ss ++ post) (sample-start f k) sample-size s (e ∙ simp append-assoc) l (omega (arith, h .0)) in
     let t : samples-from f (suc k) (length ss) ≡ ss
-    = read-samples ss f (pre ++ little 3 s) post (suc k) (e ∙ simp append-assoc) (simp (length-append, length-little) (omega arith)) (h .1) in
+    = read-samples ss f (pre ++ little sample-size s) post (suc k) (e ∙ simp append-assoc) (simp (length-append, length-little) (omega arith)) (h .1) in
     rw (q, t)
 
-pub length-write-bytes : (ws : List Write) → length (write-bytes ws) ≡ 5 * length ws
+pub length-write-bytes : (ws : List Write) → length (write-bytes ws) ≡ write-size * length ws
 unfolding write-bytes
 length-write-bytes [] = refl
 length-write-bytes (w ∷ ws) = simp (length-append, length-little) (omega (arith, length-write-bytes ws))
 
-pub length-sample-bytes : (ss : List ℕ) → length (sample-bytes ss) ≡ 3 * length ss
+pub length-sample-bytes : (ss : List ℕ) → length (sample-bytes ss) ≡ sample-size * length ss
 unfolding sample-bytes
 length-sample-bytes [] = refl
 length-sample-bytes (s ∷ ss) = simp (length-append, length-little) (omega (arith, length-sample-bytes ss))
 
-pub length-header : (writes samples : ℕ) → length (header writes samples) ≡ 8
+pub length-header : (writes samples : ℕ) → length (header writes samples) ≡ header-length
 unfolding header
 length-header writes samples = simp (length-append, length-little)
 
-pub length-encode : (ws : List Write) (ss : List ℕ) → length (encode ws ss) ≡ 8 + 5 * length ws + 3 * length ss
+pub length-encode : (ws : List Write) (ss : List ℕ) → length (encode ws ss) ≡ write-start (length ws) + sample-size * length ss
 unfolding encode
 length-encode ws ss = simp (length-append, length-header, length-write-bytes, length-sample-bytes)
 
 -- A file that passes the five tests has good form.
-pub good-form : (f : List ℕ) → 8 ≤ length f → same (take 3 f) mark ≡ true → field f 3 2 ≡ version → sample-count f ≤ 16384 → length f ≡ whole f
+pub good-form : (f : List ℕ) → header-length ≤ length f → same (take 3 f) mark ≡ true → field f 3 2 ≡ version → sample-count f ≤ 16384 → length f ≡ whole f
     → form-refusal f ≡ 0
 unfolding form-refusal
 good-form f a b c d e = rw (le-ltb _ _ a, b, eq-eqb _ _ c, le-ltb _ _ d, eq-eqb _ _ e)

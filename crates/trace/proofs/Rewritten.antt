@@ -12,13 +12,13 @@ use borrow.Author.Tests.{ltb-false, eqb-true, not-false}
 use Rattle.refusals.proofs.Accepted.{accepted}
 use Rattle.bits.proofs.Booleans.{and-true}
 use Rattle.refusals.specs.Refusals.{_⇒_}
-use Rattle.trace.specs.Format.{little, write-bytes, sample-bytes, mark, version, header, encode}
-use Rattle.trace.specs.Reading.{field, same, write-count, sample-count, whole, form-refusal, write-at, sample-at, writes-from, samples-from, writes-of, samples-of}
+use Rattle.trace.specs.Format.{header-length, write-size, sample-size, little, write-bytes, sample-bytes, mark, version, header, encode}
+use Rattle.trace.specs.Reading.{field, same, write-count, sample-count, whole, form-refusal, write-at, sample-at, writes-from, samples-from, writes-of, samples-of, write-start, sample-start}
 use Rattle.trace.proofs.Numbers.{Bytes, bytes-take, bytes-drop, little-number}
 
 -- What the form checks say of a file.
 pub record Formed (f : List ℕ) : Type 0 where
-  pub long : 8 ≤ length f
+  pub long : header-length ≤ length f
   pub marked : take 3 f ≡ mark
   pub versioned : field f 3 2 ≡ version
   pub few : sample-count f ≤ 16384
@@ -38,7 +38,7 @@ unfolding form-refusal
 formed f e =
     let (a, (b, (c, (d, (g, u))))) =
     accepted
-    (ltb (length f) 8 ⇒ 13 ∷
+    (ltb (length f) header-length ⇒ 13 ∷
     not (same (take 3 f) mark) ⇒ 10 ∷
     not (eqb (field f 3 2) version) ⇒ 11 ∷
     ltb 16384 (sample-count f) ⇒ 12 ∷
@@ -71,25 +71,25 @@ part-none : (f : List ℕ) (at n : ℕ) → n ≡ 0 → [] ≡ part f at n
 unfolding part
 part-none f at n e = rw e
 
-pub write-part : (f : List ℕ) (k n : ℕ) → Bytes f → 8 + 5 * (k + n) ≤ length f → write-bytes (writes-from f k n) ≡ part f (8 + 5 * k) (5 * n)
+pub write-part : (f : List ℕ) (k n : ℕ) → Bytes f → write-start (k + n) ≤ length f → write-bytes (writes-from f k n) ≡ part f (write-start k) (write-size * n)
 unfolding write-bytes writes-from write-at
-write-part f k zero b h = part-none f (8 + 5 * k) (5 * 0) (omega arith)
+write-part f k zero b h = part-none f (write-start k) (write-size * 0) (omega arith)
 write-part f k (suc n) b h =
     rw (
-      field-bytes f (8 + 5 * k) 1 b (omega arith),
-      field-bytes f (9 + 5 * k) 4 b (omega arith),
+      field-bytes f (write-start k) 1 b (omega arith),
+      field-bytes f (write-start k + 1) 4 b (omega arith),
       write-part f (suc k) n b (omega arith),
-      part-join f (8 + 5 * k) 1 (9 + 5 * k) 4 5 (omega arith) (omega arith),
+      part-join f (write-start k) 1 (write-start k + 1) 4 write-size (omega arith) (omega arith),
     )
-    (part-join f (8 + 5 * k) 5 (8 + 5 * suc k) (5 * n) (5 * suc n) (omega arith) (omega arith))
+    (part-join f (write-start k) write-size (write-start (suc k)) (write-size * n) (write-size * suc n) (omega arith) (omega arith))
 
-pub sample-part : (f : List ℕ) (k n : ℕ) → Bytes f → 8 + 5 * write-count f + 3 * (k + n) ≤ length f
-    → sample-bytes (samples-from f k n) ≡ part f (8 + 5 * write-count f + 3 * k) (3 * n)
+pub sample-part : (f : List ℕ) (k n : ℕ) → Bytes f → sample-start f (k + n) ≤ length f
+    → sample-bytes (samples-from f k n) ≡ part f (sample-start f k) (sample-size * n)
 unfolding sample-bytes samples-from sample-at
-sample-part f k zero b h = part-none f (8 + 5 * write-count f + 3 * k) (3 * 0) (omega arith)
+sample-part f k zero b h = part-none f (sample-start f k) (sample-size * 0) (omega arith)
 sample-part f k (suc n) b h =
-    rw (field-bytes f (8 + 5 * write-count f + 3 * k) 3 b (omega arith), sample-part f (suc k) n b (omega arith))
-    (part-join f (8 + 5 * write-count f + 3 * k) 3 (8 + 5 * write-count f + 3 * suc k) (3 * n) (3 * suc n) (omega arith) (omega arith))
+    rw (field-bytes f (sample-start f k) sample-size b (omega arith), sample-part f (suc k) n b (omega arith))
+    (part-join f (sample-start f k) sample-size (sample-start f (suc k)) (sample-size * n) (sample-size * suc n) (omega arith) (omega arith))
 
 pub length-writes-from : (f : List ℕ) (k n : ℕ) → length (writes-from f k n) ≡ n
 unfolding writes-from
@@ -101,7 +101,7 @@ unfolding samples-from
 length-samples-from f k zero = refl
 length-samples-from f k (suc n) = ap suc (length-samples-from f (suc k) n)
 
-header-part : (f : List ℕ) → Bytes f → Formed f → header (write-count f) (sample-count f) ≡ part f 0 8
+header-part : (f : List ℕ) → Bytes f → Formed f → header (write-count f) (sample-count f) ≡ part f 0 header-length
 unfolding header
 header-part f b g =
     let w : ℕ = write-count f in
@@ -116,7 +116,7 @@ header-part f b g =
       part-join f 0 3 3 2 5 refl refl,
       part-join f 0 5 5 1 6 refl refl,
     )
-    (part-join f 0 6 6 2 8 refl refl)
+    (part-join f 0 6 6 2 header-length refl refl)
 
 pub length-writes-of : (f : List ℕ) → length (writes-of f) ≡ write-count f
 length-writes-of f = length-writes-from f 0 (write-count f)
@@ -134,7 +134,7 @@ rewritten f b e =
       header-part f b g,
       write-part f 0 (write-count f) b (omega (arith, g .exact)),
       sample-part f 0 (sample-count f) b (omega (arith, g .exact)),
-      part-join f 0 8 (8 + 5 * 0) (5 * write-count f) (8 + 5 * write-count f) (omega arith) (omega arith),
-      part-join f 0 (8 + 5 * write-count f) (8 + 5 * write-count f + 3 * 0) (3 * sample-count f) (length f) (omega arith) (omega (arith, g .exact)),
+      part-join f 0 header-length (write-start 0) (write-size * write-count f) (write-start (write-count f)) (omega arith) (omega arith),
+      part-join f 0 (write-start (write-count f)) (sample-start f 0) (sample-size * sample-count f) (length f) (omega arith) (omega (arith, g .exact)),
     )
     (unfold part in take-length f)

@@ -9,14 +9,24 @@ unfoldable pub little : ℕ → ℕ → List ℕ
 little zero x = []
 little (suc n) x = x % 256 ∷ little n (x / 256)
 
--- Each write: offset (1) and value (4). Each sample: 3 bytes.
+-- The bytes of the header, of a write and of a sample.
+abbrev pub header-length : ℕ
+header-length = 8
+
+abbrev pub write-size : ℕ
+write-size = 5
+
+abbrev pub sample-size : ℕ
+sample-size = 3
+
+-- Each write: offset (1) and value (4). Each sample: its three lowest bytes.
 unfoldable pub write-bytes : List Write → List ℕ
 write-bytes [] = []
 write-bytes (w ∷ ws) = little 1 (w .offset) ++ little 4 (w .value) ++ write-bytes ws
 
 unfoldable pub sample-bytes : List ℕ → List ℕ
 sample-bytes [] = []
-sample-bytes (w ∷ ws) = little 3 w ++ sample-bytes ws
+sample-bytes (w ∷ ws) = little sample-size w ++ sample-bytes ws
 
 -- Bytes 0-2 "FGT"; 3-4 version; 5 number of writes; 6-7 number of samples.
 abbrev pub mark : List ℕ

@@ -5,9 +5,9 @@ use Prim.Native.Nat.{ℕ, zero, suc, _+_, _-_, _*_}
 use lib.Dec.{eqb, ltb}
 use lib.ListN.{length, take, drop}
 use Rattle.refusals.specs.Refusals.{_⇒_, first}
-use Rattle.samples.specs.Samples.{bad-sample}
+use Rattle.samples.specs.Samples.{bad-sample, any-bad}
 use Rattle.trace.specs.declared.Write.{Write}
-use Rattle.trace.specs.Format.{mark, version}
+use Rattle.trace.specs.Format.{header-length, write-size, sample-size, mark, version}
 
 -- The number that some bytes are, little-endian; and that of n bytes of a file from a byte on.
 unfoldable pub number : List ℕ → ℕ
@@ -23,21 +23,28 @@ same [] (y ∷ ys) = false
 same (x ∷ xs) [] = false
 same (x ∷ xs) (y ∷ ys) = eqb x y && same xs ys
 
--- The header's two numbers, and the length that they give.
+-- The header's two numbers.
 abbrev pub write-count : List ℕ → ℕ
 write-count file = field file 5 1
 
 abbrev pub sample-count : List ℕ → ℕ
 sample-count file = field file 6 2
 
+-- The byte at which write number k, and sample number k, of a file begins; and the length that the header gives.
+abbrev pub write-start : ℕ → ℕ
+write-start k = header-length + write-size * k
+
+abbrev pub sample-start : List ℕ → ℕ → ℕ
+sample-start file k = write-start (write-count file) + sample-size * k
+
 abbrev pub whole : List ℕ → ℕ
-whole file = 8 + 5 * write-count file + 3 * sample-count file
+whole file = sample-start file (sample-count file)
 
 -- The form checks on opening: 13 (below 8 bytes), 10, 11, 12, 13.
 unfoldable pub form-refusal : List ℕ → ℕ
 form-refusal file =
     first
-    (ltb (length file) 8 ⇒ 13 ∷
+    (ltb (length file) header-length ⇒ 13 ∷
     not (same (take 3 file) mark) ⇒ 10 ∷
     not (eqb (field file 3 2) version) ⇒ 11 ∷
     ltb 16384 (sample-count file) ⇒ 12 ∷
@@ -57,10 +64,10 @@ checked w = cond (bad-sample w) (refused 7) (a-sample w)
 
 -- Write number k, and sample number k, of a file.
 unfoldable pub write-at : List ℕ → ℕ → Write
-write-at file k = record { offset = field file (8 + 5 * k) 1; value = field file (9 + 5 * k) 4 }
+write-at file k = record { offset = field file (write-start k) 1; value = field file (write-start k + 1) 4 }
 
 unfoldable pub sample-at : List ℕ → ℕ → ℕ
-sample-at file k = field file (8 + 5 * write-count file + 3 * k) 3
+sample-at file k = field file (sample-start file k) sample-size
 
 -- Places are numbered from 0: first the writes, then the samples, then the end.
 unfoldable pub item : List ℕ → ℕ → Item
@@ -106,3 +113,7 @@ writes-of file = writes-from file 0 (write-count file)
 
 abbrev pub samples-of : List ℕ → List ℕ
 samples-of file = samples-from file 0 (sample-count file)
+
+-- An accepted file passes the form checks, and none of its samples has a bit above 17.
+unfoldable pub file-refusal : List ℕ → ℕ
+file-refusal file = cond (eqb (form-refusal file) 0) (cond (any-bad (samples-of file)) 7 0) (form-refusal file)

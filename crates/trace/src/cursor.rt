@@ -2,15 +2,23 @@
 ghost use mathlib.Core.Path.{_≡_};
 ghost use Prim.Native.Nat.{_<_, _≤_, _^_};
 ghost use lib.ListN.{getD, length, take};
+ghost use Rattle.refusals.specs.Table.{outcome};
 ghost use Rattle.trace.specs.Format as format;
 ghost use Rattle.trace.specs.Reading as reading;
 ghost use Rattle.trace.specs.Answers as answers;
-use crate::Form;
 use crate::Item;
 use crate::Read;
-use crate::Refusal;
 use crate::Write;
+use refusals::Outcome;
+use refusals::Refusal;
 use samples::bad_sample;
+
+// The bytes of the header, of a write and of a sample.
+pub const HEADER_LENGTH: usize = 8;
+
+pub const WRITE_SIZE: usize = 5;
+
+pub const SAMPLE_SIZE: usize = 3;
 
 fn byte(file: &[u8], at: usize) -> u8
     ensures { λ r. ⌜ r ≡ getD (now (file .entry)) at 0 ⌝ }
@@ -79,27 +87,29 @@ fn marked(file: &[u8]) -> bool
 }
 
 // The form checks: 13 (below 8 bytes), 10, 11, 12, 13.
-pub fn check_form(file: &[u8]) -> Form
-    ensures { λ r. ⌜ answers.form r ≡ reading.form-refusal (now (file .entry)) ⌝ }
+pub fn check_form(file: &[u8]) -> Outcome
+    ensures { λ r. ⌜ outcome r ≡ reading.form-refusal (now (file .entry)) ⌝ }
 {
-    if file.len() < 8 {
-        return Form::Refused(Refusal::Length);
+    if file.len() < HEADER_LENGTH {
+        return Outcome::Refused(Refusal::Length);
     }
     if marked(file) {
         if two(file, 3) != 1 {
-            return Form::Refused(Refusal::Version);
+            return Outcome::Refused(Refusal::Version);
         }
         let samples = two(file, 6);
         if 16384 < samples {
-            return Form::Refused(Refusal::SampleCount);
+            return Outcome::Refused(Refusal::SampleCount);
         }
         let writes = one(file, 5);
-        if file.len() != 8 + 5 * (writes as usize) + 3 * (samples as usize) {
-            return Form::Refused(Refusal::Length);
+        if file.len()
+            != HEADER_LENGTH + WRITE_SIZE * (writes as usize) + SAMPLE_SIZE * (samples as usize)
+        {
+            return Outcome::Refused(Refusal::Length);
         }
-        return Form::Good;
+        return Outcome::Accepted;
     }
-    Form::Refused(Refusal::Mark)
+    Outcome::Refused(Refusal::Mark)
 }
 
 // The number of writes, which is the place of the first sample.
@@ -108,6 +118,21 @@ pub fn write_count(file: &[u8]) -> usize
     ensures { λ r. ⌜ r < 2 ^ 8 ⌝ }
 {
     one(file, 5) as usize
+}
+
+// The number of samples, and the byte at which they begin.
+pub fn sample_count(file: &[u8]) -> usize
+    ensures { λ r. ⌜ r ≡ reading.sample-count (now (file .entry)) ⌝ }
+    ensures { λ r. ⌜ r < 2 ^ 16 ⌝ }
+{
+    two(file, 6) as usize
+}
+
+pub fn samples_start(file: &[u8]) -> usize
+    ensures { λ r. ⌜ r ≡ reading.sample-start (now (file .entry)) 0 ⌝ }
+    ensures { λ r. ⌜ r < 2 ^ 11 ⌝ }
+{
+    HEADER_LENGTH + WRITE_SIZE * write_count(file)
 }
 
 // A sample, or refusal 7.
@@ -127,13 +152,17 @@ pub fn item_at(file: &[u8], place: usize) -> Item
 {
     let writes = one(file, 5) as usize;
     if place < writes {
-        let offset = one(file, 8 + 5 * place);
-        let value = four(file, 9 + 5 * place);
+        let at = HEADER_LENGTH + WRITE_SIZE * place;
+        let offset = one(file, at);
+        let value = four(file, at + 1);
         return Item::Write(Write { offset, value });
     }
     let samples = two(file, 6) as usize;
     if place < writes + samples {
-        return checked(three(file, 8 + 5 * writes + 3 * (place - writes)));
+        return checked(three(
+            file,
+            HEADER_LENGTH + WRITE_SIZE * writes + SAMPLE_SIZE * (place - writes),
+        ));
     }
     Item::End
 }
@@ -145,8 +174,8 @@ fn found(file: &[u8], place: usize) -> Item
 {
     let form = check_form(file);
     match form {
-        Form::Good => item_at(file, place),
-        Form::Refused(refusal) => Item::Refused(refusal),
+        Outcome::Accepted => item_at(file, place),
+        Outcome::Refused(refusal) => Item::Refused(refusal),
     }
 }
 

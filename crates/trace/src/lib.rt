@@ -1,55 +1,24 @@
-// The trace file, version 1: the form checks; one item at a time, from a slice and a place or from a reader that holds them; the writer. It knows
-// nothing of the device. Each function answers for every slice and number, and states its answer as an equation with a definition of specs/.
-ghost use mathlib.Core.Path.{_≡_};
-ghost use Rattle.trace.specs.Answers as answers;
+// The trace file, version 1: the form checks; one item at a time, from a slice and a place or from a reader that holds them; samples by stretches,
+// into a lent array; the writer. It knows nothing of the device. Each function answers for every slice and number, and states its answer as an
+// equation with a definition of specs/.
 
 mod cursor;
+mod decoding;
 mod reader;
 mod writer;
 
 pub use cursor::check_form;
 pub use cursor::item_at;
 pub use cursor::write_count;
+pub use decoding::check_file;
+pub use decoding::stretch_at;
 pub use reader::Reader;
 pub use reader::next;
 pub use reader::open;
 pub use reader::place;
 pub use reader::read_once;
+use refusals::Refusal;
 pub use writer::encode;
-
-// Why a file, an item of one, or a file to be written is refused.
-pub enum Refusal {
-    SampleBits,
-    Mark,
-    Version,
-    SampleCount,
-    Length,
-    WriteCount,
-    Room,
-}
-
-impl Refusal {
-    // The paper's number.
-    pub fn number(self) -> u32
-        ensures { λ r. ⌜ r ≡ answers.number self ⌝ }
-    {
-        match self {
-            Refusal::SampleBits => 7,
-            Refusal::Mark => 10,
-            Refusal::Version => 11,
-            Refusal::SampleCount => 12,
-            Refusal::Length => 13,
-            Refusal::WriteCount => 14,
-            Refusal::Room => 15,
-        }
-    }
-}
-
-// Whether a file passes the form checks.
-pub enum Form {
-    Good,
-    Refused(Refusal),
-}
 
 // A register write as a file has it: any offset byte, any 32-bit value.
 pub struct Write {
@@ -61,6 +30,13 @@ pub struct Write {
 pub enum Item {
     Write(Write),
     Sample(u32),
+    End,
+    Refused(Refusal),
+}
+
+// Samples of a file, as many as it says, that stand in the array lent beside it.
+pub enum Stretch {
+    Samples(usize),
     End,
     Refused(Refusal),
 }

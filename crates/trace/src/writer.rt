@@ -5,11 +5,15 @@ ghost use Prim.Native.Nat.{_+_, _*_, _≤_};
 ghost use lib.ListN.{length};
 ghost use lib.Seq.{sets};
 ghost use Rattle.trace.specs.Format as format;
+ghost use Rattle.trace.specs.Reading as reading;
 ghost use Rattle.trace.specs.Writing as writing;
 ghost use Rattle.trace.specs.Answers as answers;
-use crate::Refusal;
 use crate::Written;
+use crate::cursor::HEADER_LENGTH;
+use crate::cursor::SAMPLE_SIZE;
+use crate::cursor::WRITE_SIZE;
 use crate::cursor::wide;
+use refusals::Refusal;
 use samples::any_bad;
 
 // The n lowest bytes of a number, from a byte on.
@@ -30,7 +34,7 @@ fn put(out: &mut [u8], at: usize, n: usize, x: u32)
 
 // The mark, the version and the two numbers.
 fn put_header(out: &mut [u8], writes: u32, samples: u32)
-    requires { ⌜ 8 ≤ length (now out) ⌝ }
+    requires { ⌜ format.header-length ≤ length (now out) ⌝ }
     ensures { λ _. ⌜ now (out .exit) ≡ sets (now (out .entry)) 0 (format.header writes samples) ⌝ }
 {
     put(out, 0, 3, 0x544746);
@@ -41,46 +45,46 @@ fn put_header(out: &mut [u8], writes: u32, samples: u32)
 
 // The offset and the value of a write, from a byte on.
 fn put_write(out: &mut [u8], at: usize, offset: u8, value: u32)
-    requires { ⌜ at + 5 ≤ length (now out) ⌝ }
+    requires { ⌜ at + format.write-size ≤ length (now out) ⌝ }
     ensures { λ _. ⌜ now (out .exit) ≡ sets (now (out .entry)) at (format.little 1 offset ++ format.little 4 value) ⌝ }
 {
     put(out, at, 1, wide(offset));
     put(out, at + 1, 4, value);
 }
 
-// The writes, from byte 8 on.
+// The writes, behind the header.
 fn put_writes(out: &mut [u8], count: usize, offsets: &[u8; 255], values: &[u32; 255])
     requires { ⌜ count ≤ 255 ⌝ }
-    requires { ⌜ 8 + 5 * count ≤ length (now out) ⌝ }
-    ensures { λ _. ⌜ now (out .exit) ≡ sets (now (out .entry)) 8 (format.write-bytes (writing.given count (now (offsets .entry)) (now (values .entry)))) ⌝ }
+    requires { ⌜ reading.write-start count ≤ length (now out) ⌝ }
+    ensures { λ _. ⌜ now (out .exit) ≡ sets (now (out .entry)) format.header-length (format.write-bytes (writing.given count (now (offsets .entry)) (now (values .entry)))) ⌝ }
 {
     let mut i = 0;
     while i < count {
-        put_write(out, 8 + 5 * i, offsets[i], values[i]);
+        put_write(out, HEADER_LENGTH + WRITE_SIZE * i, offsets[i], values[i]);
         i += 1;
     }
 }
 
 // The samples, from a byte on.
 fn put_samples(out: &mut [u8], at: usize, samples: &[u32])
-    requires { ⌜ at + 3 * length (now samples) ≤ length (now out) ⌝ }
+    requires { ⌜ at + format.sample-size * length (now samples) ≤ length (now out) ⌝ }
     ensures { λ _. ⌜ now (out .exit) ≡ sets (now (out .entry)) at (format.sample-bytes (now (samples .entry))) ⌝ }
 {
     let mut i = 0;
     while i < samples.len() {
-        put(out, at + 3 * i, 3, samples[i]);
+        put(out, at + SAMPLE_SIZE * i, SAMPLE_SIZE, samples[i]);
         i += 1;
     }
 }
 
 // The whole file, from the first byte on.
 fn put_file(out: &mut [u8], count: usize, offsets: &[u8; 255], values: &[u32; 255], samples: &[u32])
-    requires { ⌜ (count ≤ 255) × (length (now samples) ≤ 16384) × (8 + 5 * count + 3 * length (now samples) ≤ length (now out)) ⌝ }
+    requires { ⌜ (count ≤ 255) × (length (now samples) ≤ 16384) × (reading.write-start count + format.sample-size * length (now samples) ≤ length (now out)) ⌝ }
     ensures { λ _. ⌜ now (out .exit) ≡ sets (now (out .entry)) 0 (format.encode (writing.given count (now (offsets .entry)) (now (values .entry))) (now (samples .entry))) ⌝ }
 {
     put_header(out, count as u32, samples.len() as u32);
     put_writes(out, count, offsets, values);
-    put_samples(out, 8 + 5 * count, samples);
+    put_samples(out, HEADER_LENGTH + WRITE_SIZE * count, samples);
 }
 
 // A trace file of the first writes, as many as the count says, and the samples: its length, or a refusal, 14, 12, 7 or 15. Refused, every byte of
@@ -103,7 +107,7 @@ pub fn encode(
     if any_bad(samples) {
         return Written::Refused(Refusal::SampleBits);
     }
-    let length = 8 + 5 * count + 3 * samples.len();
+    let length = HEADER_LENGTH + WRITE_SIZE * count + SAMPLE_SIZE * samples.len();
     if out.len() < length {
         return Written::Refused(Refusal::Room);
     }

@@ -1,7 +1,7 @@
 -- `dcmi::store` meets its contract. Assumes nothing.
 -- Each return unfolds the definition and rewrites by what the calls gave and by the tests on the way there.
 use borrow.Author.Needs.{needs}
-use Rattle.device.proofs.AcceptedRuns.{refused}
+use Rattle.refusals.proofs.Numbered.{never-zero}
 use Rattle.dcmi.proofs.store.Statement.{statement}
 use Rattle.dcmi.proofs.store.Tie as tie
 
@@ -21,7 +21,7 @@ number-requires : tie.Need-number-requires
 number-requires c κs = search needs
 
 returns-2 : tie.Need-returns-2
-returns-2 c = rw (c .number .ensures, c .before .before .outcome .given .1, refused (c .before .before .outcome .given .0 .0))
+returns-2 c = rw (c .number .ensures, c .before .before .outcome .given .1, never-zero (c .before .before .outcome .given .0 .0))
 
 pub store-spec : {M : Type 1} → statement M
 store-spec =

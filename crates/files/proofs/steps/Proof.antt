@@ -1,57 +1,62 @@
--- `files::steps` meets its contract. Assumes nothing.
--- The loop keeps that the samples left lead to the same end.
+-- `files::steps` meets its contract: the samples left lead to the same end.
 use Prim.Native.Nat.{_+_, _-_}
 use borrow.Author.Needs.{needs}
-use mathlib.Core.Path.{sym, ap, _∙_}
+use mathlib.Core.Path.{refl, sym, ap, _∙_}
 use native.Mathlib.Omega.{arith}
-use Rattle.trace.specs.Answers.{item}
+use lib.Seq.{length-take-le}
+use Rattle.files.specs.File.{stepped}
 use Rattle.trace.specs.Reading as reading
-use Rattle.files.proofs.Samples.{Stepping, stepping-start, stepping-less, stepping-asks, stepping-on, stepping-end}
+use Rattle.files.proofs.Items.{the-end}
+use Rattle.files.proofs.Samples.{Stepping, stepping-start, stepping-taken, stepping-few, stepping-room, stepping-asks, stepping-over, stepping-never, stepping-part, stepping-on, stepping-end}
 use Rattle.files.proofs.steps.Statement.{statement}
 use Rattle.files.proofs.steps.Tie as tie
 
 abbrev Inv-loop : tie.InvT-loop
-Inv-loop buffer₀ file e₀ place₀ buffer e place = Stepping file buffer₀ e₀ buffer e place
+Inv-loop buffer₀ file e₀ done₀ samples₀ buffer e done samples = Stepping file buffer₀ e₀ buffer e done samples
 
 abbrev μ-loop : tie.MeasureT-loop
-μ-loop buffer₀ file e₀ place₀ buffer e place = reading.write-count file + reading.sample-count file - place
-
-write-count-requires : tie.Need-write-count-requires Inv-loop μ-loop
-write-count-requires c κs = search needs
+μ-loop buffer₀ file e₀ done₀ samples₀ buffer e done samples = reading.sample-count file - done
 
 loop-holds : tie.Need-loop-holds Inv-loop μ-loop
-loop-holds c = rw (c .write-count .ensures .0) (stepping-start _ _ _ (c .before .before .before .pre .0) (c .before .before .before .pre .1 .1 .0))
-
-item-at-requires : tie.Need-item-at-requires Inv-loop μ-loop
-item-at-requires c κs = search needs
-
-enum-known-item : tie.Need-enum-known-item Inv-loop μ-loop
-enum-known-item c = search needs
-
-same-length : tie.Need-same-length Inv-loop μ-loop
-same-length c = c .before .before .loop .inv .going .long
+loop-holds c = stepping-start _ _ _ _ (c .before .before .pre .0) (c .before .before .pre .1 .0) (c .before .before .pre .1 .1) refl
 
 returns : tie.Need-returns Inv-loop μ-loop
-returns c = sym (stepping-end (c .before .before .loop .inv) (c .before .item-at .result) (c .match .keys2) (c .before .item-at .ensures .0))
+returns c =
+    let s = c .before .before .before .before .loop .inv in
+    sym (ap stepped (stepping-end s (stepping-over s (c .before .before .before .before .before .before .before .pre .1 .1) (c .before .before .stretch-at .ensures) (the-end (c .before .before .stretch-at .result) (c .before .match .keys2) (c .match2 .keys2)))))
 
-slice-aggregate-steps : tie.Need-slice-aggregate-steps Inv-loop μ-loop
-slice-aggregate-steps c = search needs
+returns-2 : tie.Need-returns-2 Inv-loop μ-loop
+returns-2 c = absurd (stepping-never (c .before .before .before .before .before .before .loop .inv) (c .before .before .before .before .before .before .before .before .before .pre .1 .1) (c .before .before .before .before .stretch-at .ensures) (c .before .stretch2 .given .1))
 
-steps-requires : tie.Need-steps-requires Inv-loop μ-loop
-steps-requires c κs = stepping-asks (c .before .before .before .before .before .before .loop .inv) _ (sym (c .before .before .before .before .before .item-at .ensures .0) ∙ ap item (c .before .before .before .item .given .1)) (c .before .before .before .before .before .before .before .before .before .before .pre .1 .0) (c .before .before .before .before .before .before .before .before .before .before .pre .1 .1 .1)
+array-share-prefix-samples : tie.Need-array-share-prefix-samples Inv-loop μ-loop
+array-share-prefix-samples c =
+    let s = c .before .before .before .before .before .before .loop .inv in
+    stepping-room s _ _ (stepping-taken s (c .before .before .before .before .before .before .before .before .before .pre .1 .1) (c .before .before .before .before .stretch-at .ensures) (c .before .before .stretch .given .1))
 
-add-place : tie.Need-add-place Inv-loop μ-loop
-unfolding reading.past
-add-place c = record { fits = rw (c .before .before .before .before .before .before .item .given .1) at (c .before .before .before .before .before .before .before .before .item-at .ensures .1) }
+slice-aggregate-run-stretch : tie.Need-slice-aggregate-run-stretch Inv-loop μ-loop
+slice-aggregate-run-stretch c =
+    let s = c .before .before .before .before .before .before .before .loop .inv in
+    sym (length-take-le _ _ (stepping-room s _ _ (stepping-taken s (c .before .before .before .before .before .before .before .before .before .before .pre .1 .1) (c .before .before .before .before .before .stretch-at .ensures) (c .before .before .before .stretch .given .1))))
+
+run-stretch-requires : tie.Need-run-stretch-requires Inv-loop μ-loop
+run-stretch-requires c κs =
+    let s = c .before .before .before .before .before .before .before .loop .inv in
+    let p = stepping-taken s (c .before .before .before .before .before .before .before .before .before .before .pre .1 .1) (c .before .before .before .before .before .stretch-at .ensures) (c .before .before .before .stretch .given .1) in
+    stepping-asks s _ _ p (stepping-few s (c .before .before .before .before .before .before .before .before .before .before .pre .1 .1) (c .before .before .before .before .before .stretch-at .ensures) (c .before .before .before .stretch .given .1))
+
+add-done : tie.Need-add-done Inv-loop μ-loop
+add-done c = omega (arith, stepping-few (c .before .before .before .before .before .before .before .before .before .before .loop .inv) (c .before .before .before .before .before .before .before .before .before .before .before .before .before .pre .1 .1) (c .before .before .before .before .before .before .before .before .stretch-at .ensures) (c .before .before .before .before .before .before .stretch .given .1))
 
 loop-less : tie.Need-loop-less Inv-loop μ-loop
-loop-less c = omega (arith, stepping-less (c .before .before .before .before .before .before .before .before .before .loop .inv) _ (sym (c .before .before .before .before .before .before .before .before .item-at .ensures .0) ∙ ap item (c .before .before .before .before .before .before .item .given .1)))
+loop-less c =
+    let p = stepping-taken (c .before .before .before .before .before .before .before .before .before .before .loop .inv) (c .before .before .before .before .before .before .before .before .before .before .before .before .before .pre .1 .1) (c .before .before .before .before .before .before .before .before .stretch-at .ensures) (c .before .before .before .before .before .before .stretch .given .1) in
+    omega (arith, p .some, p .within)
 
 loop-again : tie.Need-loop-again Inv-loop μ-loop
 loop-again c =
-    stepping-on (c .before .before .before .before .before .before .before .before .before .loop .inv) _ (sym (c .before .before .before .before .before .before .before .before .item-at .ensures .0) ∙ ap item (c .before .before .before .before .before .before .item .given .1)) _ _
-    (c .before .before .steps .ensures)
-    (c .before .before .steps .kept .1 .0)
+    let s = c .before .before .before .before .before .before .before .before .before .before .loop .inv in
+    let p = stepping-taken s (c .before .before .before .before .before .before .before .before .before .before .before .before .before .pre .1 .1) (c .before .before .before .before .before .before .before .before .stretch-at .ensures) (c .before .before .before .before .before .before .stretch .given .1) in
+    stepping-on s _ _ _ _ p (rw (stepping-part s _ _ p) at (c .before .before .run-stretch .ensures)) (c .before .before .run-stretch .kept .1 .0)
 
 pub steps-spec : {M : Type 1} → statement M
 steps-spec =
@@ -59,14 +64,17 @@ steps-spec =
     (tie.spec
     Inv-loop
     μ-loop
-    write-count-requires
     loop-holds
-    item-at-requires
-    enum-known-item
-    same-length
+    (λ c κs. search needs)
+    (λ c. search needs)
+    (λ c. search needs)
+    (λ c. c .before .before .before .before .loop .inv .long)
     returns
-    slice-aggregate-steps
-    steps-requires
-    add-place
+    (λ c. c .before .before .before .before .before .before .loop .inv .long)
+    returns-2
+    array-share-prefix-samples
+    slice-aggregate-run-stretch
+    run-stretch-requires
+    add-done
     loop-less
     loop-again)

@@ -44,8 +44,8 @@ use Rattle.device.specs.Answers as answers
 use Rattle.device.specs.declared.Changed.{Changed}
 use Rattle.rules.specs.Run as rules
 use Rattle.rules.specs.declared.Device.{Device}
-use Rattle.device.proofs.Outcome as E
-use Rattle.device.proofs.Outcome.Laws as E′
+use Rattle.refusals.proofs.Outcome as E
+use Rattle.refusals.proofs.Outcome.Laws as E′
 use Rattle.device.proofs.Changed as S
 use Rattle.device.proofs.Changed.Laws as S′
 use Rattle.rules.proofs.Device as T

@@ -2,8 +2,9 @@
 -- Each return unfolds the definition and rewrites by what the calls gave and by the tests on the way there.
 use borrow.Author.Needs.{needs}
 use mathlib.Core.Path.{sym, _∙_, ap}
-use Rattle.device.proofs.AcceptedRuns.{tail-part, put-tail, refused, accepted-run}
-use Rattle.device.specs.Answers.{outcome}
+use Rattle.device.proofs.AcceptedRuns.{tail-part, put-tail, accepted-run}
+use Rattle.refusals.proofs.Numbered.{never-zero}
+use Rattle.refusals.specs.Table.{outcome}
 use Rattle.rules.proofs.WellFormed.{facts}
 use Rattle.rules.specs.Run.{run}
 use Rattle.device.proofs.runs.run.Statement.{statement}
@@ -37,7 +38,7 @@ same-length c = search needs
 
 returns : tie.Need-returns
 unfolding run
-returns c = rw (sym (c .before .before .before .run-refusal .ensures) ∙ ap outcome (c .before .outcome .given .1), refused (c .before .outcome .given .0 .0))
+returns c = rw (sym (c .before .before .before .run-refusal .ensures) ∙ ap outcome (c .before .outcome .given .1), never-zero (c .before .outcome .given .0 .0))
 
 same-length-2 : tie.Need-same-length-2
 same-length-2 c = search needs

@@ -6,8 +6,9 @@ use lib.ListN.{length, length-drop, drop}
 use mathlib.Core.List.{_∷_, []}
 use mathlib.Core.Path.{_≡_, _∙_, ap, sym}
 use native.Mathlib.Omega.{arith}
-use Rattle.device.proofs.AcceptedRuns.{tail-part, put-tail, landing-within, accepted-run, refused}
-use Rattle.device.specs.Answers.{outcome}
+use Rattle.device.proofs.AcceptedRuns.{tail-part, put-tail, landing-within, accepted-run}
+use Rattle.refusals.proofs.Numbered.{never-zero}
+use Rattle.refusals.specs.Table.{outcome}
 use Rattle.rules.proofs.WellFormed.{facts}
 use Rattle.rules.specs.declared.Device.{Device}
 use Rattle.rules.specs.Run.{Ran, steps, sample}
@@ -74,7 +75,7 @@ same-length c = search needs
 
 returns : tie.Need-returns
 unfolding sample
-returns c = rw (sym (c .before .before .before .run-refusal .ensures) ∙ ap outcome (c .before .outcome .given .1), refused (c .before .outcome .given .0 .0))
+returns c = rw (sym (c .before .before .before .run-refusal .ensures) ∙ ap outcome (c .before .outcome .given .1), never-zero (c .before .outcome .given .0 .0))
 
 same-length-2 : tie.Need-same-length-2
 same-length-2 c = search needs

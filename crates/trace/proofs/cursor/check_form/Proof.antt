@@ -1,5 +1,4 @@
--- `trace::cursor::check_form` meets its contract. Assumes nothing.
--- Each return unfolds the definition and rewrites by what the calls gave and by the tests on the way there.
+-- `trace::cursor::check_form` meets its contract.
 use borrow.Author.Needs.{needs}
 use borrow.Author.Tests.{le-ltb, lt-ltb, eq-eqb, ne-eqb}
 use Rattle.trace.specs.Reading.{form-refusal}
@@ -11,12 +10,6 @@ unfolding form-refusal
 returns c =
     rw (lt-ltb _ _ (c .if1 .taken))
 
-marked-requires : tie.Need-marked-requires
-marked-requires c κs = search needs
-
-two-requires : tie.Need-two-requires
-two-requires c κs = search needs
-
 returns-2 : tie.Need-returns-2
 unfolding form-refusal
 returns-2 c =
@@ -27,9 +20,6 @@ returns-2 c =
       ← c .before .two .ensures .0,
       ne-eqb _ _ (c .if3 .taken),
     )
-
-two-requires-2 : tie.Need-two-requires-2
-two-requires-2 c κs = search needs
 
 returns-3 : tie.Need-returns-3
 unfolding form-refusal
@@ -43,27 +33,6 @@ returns-3 c =
       ← c .before .two2 .ensures .0,
       lt-ltb _ _ (c .if4 .taken),
     )
-
-one-requires : tie.Need-one-requires
-one-requires c κs = search needs
-
-cast-if5 : tie.Need-cast-if5
-cast-if5 c = search needs
-
-mul-if5 : tie.Need-mul-if5
-mul-if5 c = search needs
-
-add-if5 : tie.Need-add-if5
-add-if5 c = search needs
-
-cast-if5-2 : tie.Need-cast-if5-2
-cast-if5-2 c = search needs
-
-mul-if5-2 : tie.Need-mul-if5-2
-mul-if5-2 c = search needs
-
-add-if5-2 : tie.Need-add-if5-2
-add-if5-2 c = search needs
 
 returns-4 : tie.Need-returns-4
 unfolding form-refusal
@@ -109,18 +78,18 @@ check-form-spec =
     tie.close
     (tie.spec
     returns
-    marked-requires
-    two-requires
+    (λ c κs. search needs)
+    (λ c κs. search needs)
     returns-2
-    two-requires-2
+    (λ c κs. search needs)
     returns-3
-    one-requires
-    cast-if5
-    mul-if5
-    add-if5
-    cast-if5-2
-    mul-if5-2
-    add-if5-2
+    (λ c κs. search needs)
+    (λ c. search needs)
+    (λ c. search needs)
+    (λ c. search needs)
+    (λ c. search needs)
+    (λ c. search needs)
+    (λ c. search needs)
     returns-4
     returns-5
     returns-6)

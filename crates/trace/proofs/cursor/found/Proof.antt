@@ -1,23 +1,9 @@
--- `trace::cursor::found` meets its contract. Assumes nothing.
--- Each return unfolds the definition and rewrites by what the calls gave and by the tests on the way there.
+-- `trace::cursor::found` meets its contract.
 use borrow.Author.Needs.{needs}
-use Rattle.trace.specs.Answers.{form}
 use Rattle.trace.specs.Reading.{found, past}
-use Rattle.trace.proofs.Walk.{never-zero}
+use Rattle.refusals.proofs.Numbered.{never-zero}
 use Rattle.trace.proofs.cursor.found.Statement.{statement}
 use Rattle.trace.proofs.cursor.found.Tie as tie
-
-check-form-requires : tie.Need-check-form-requires
-check-form-requires c κs = search needs
-
-enum-told : tie.Need-enum-told
-enum-told c = search needs
-
-item-at-requires : tie.Need-item-at-requires
-item-at-requires c κs = search needs
-
-enum-known-form : tie.Need-enum-known-form
-enum-known-form c = search needs
 
 returns : tie.Need-returns
 unfolding found
@@ -44,4 +30,4 @@ returns-2 c = (
 pub found-spec : {M : Type 1} → statement M
 found-spec =
     tie.close
-    (tie.spec check-form-requires enum-told item-at-requires enum-known-form returns returns-2)
+    (tie.spec (λ c κs. search needs) (λ c. search needs) (λ c κs. search needs) (λ c. search needs) returns returns-2)

@@ -1,5 +1,4 @@
--- `trace::cursor::item_at` meets its contract. Assumes nothing.
--- Each return unfolds the definition and rewrites by what the calls gave and by the tests on the way there.
+-- `trace::cursor::item_at` meets its contract.
 use borrow.Author.Needs.{needs}
 use borrow.Author.Tests.{le-ltb, lt-ltb}
 use native.Mathlib.Omega.{arith}
@@ -8,30 +7,6 @@ use Rattle.trace.specs.Reading.{item, past, sample-at, write-at}
 use Rattle.trace.proofs.Walk.{past-next}
 use Rattle.trace.proofs.cursor.item_at.Statement.{statement}
 use Rattle.trace.proofs.cursor.item_at.Tie as tie
-
-one-requires : tie.Need-one-requires
-one-requires c κs = search needs
-
-cast-writes : tie.Need-cast-writes
-cast-writes c = search needs
-
-mul-one : tie.Need-mul-one
-mul-one c = search needs
-
-add-one : tie.Need-add-one
-add-one c = search needs
-
-one-requires-2 : tie.Need-one-requires-2
-one-requires-2 c κs = search needs
-
-mul-four : tie.Need-mul-four
-mul-four c = search needs
-
-add-four : tie.Need-add-four
-add-four c = search needs
-
-four-requires : tie.Need-four-requires
-four-requires c κs = search needs
 
 returns : tie.Need-returns
 unfolding item write-at sample-at past
@@ -44,33 +19,6 @@ returns c = (
   ),
   omega (arith, c .before .before .if1 .taken),
 )
-
-two-requires : tie.Need-two-requires
-two-requires c κs = search needs
-
-cast-samples : tie.Need-cast-samples
-cast-samples c = search needs
-
-add-if2 : tie.Need-add-if2
-add-if2 c = search needs
-
-mul-three : tie.Need-mul-three
-mul-three c = search needs
-
-add-three : tie.Need-add-three
-add-three c = search needs
-
-mul-three-2 : tie.Need-mul-three-2
-mul-three-2 c = search needs
-
-add-three-2 : tie.Need-add-three-2
-add-three-2 c = search needs
-
-three-requires : tie.Need-three-requires
-three-requires c κs = search needs
-
-checked-requires : tie.Need-checked-requires
-checked-requires c κs = search needs
 
 returns-2 : tie.Need-returns-2
 unfolding item write-at sample-at past
@@ -102,23 +50,22 @@ pub item-at-spec : {M : Type 1} → statement M
 item-at-spec =
     tie.close
     (tie.spec
-    one-requires
-    cast-writes
-    mul-one
-    add-one
-    one-requires-2
-    mul-four
-    add-four
-    four-requires
+    (λ c κs. search needs)
+    (λ c. search needs)
+    (λ c. search needs)
+    (λ c. search needs)
+    (λ c κs. search needs)
+    (λ c. search needs)
+    (λ c κs. search needs)
     returns
-    two-requires
-    cast-samples
-    add-if2
-    mul-three
-    add-three
-    mul-three-2
-    add-three-2
-    three-requires
-    checked-requires
+    (λ c κs. search needs)
+    (λ c. search needs)
+    (λ c. search needs)
+    (λ c. search needs)
+    (λ c. search needs)
+    (λ c. search needs)
+    (λ c. search needs)
+    (λ c κs. search needs)
+    (λ c κs. search needs)
     returns-2
     returns-3)

@@ -1,20 +1,10 @@
--- `trace::cursor::marked` meets its contract. Assumes nothing.
--- Each return unfolds the definition and rewrites by what the calls gave and by the tests on the way there.
+-- `trace::cursor::marked` meets its contract.
 use borrow.Author.Needs.{needs}
 use borrow.Author.Tests.{eq-eqb, ne-eqb}
 use denote.Ref.{now}
 use Rattle.trace.proofs.Fields.{mark-bytes}
 use Rattle.trace.proofs.cursor.marked.Statement.{statement}
 use Rattle.trace.proofs.cursor.marked.Tie as tie
-
-byte-requires : tie.Need-byte-requires
-byte-requires c κs = search needs
-
-byte-requires-2 : tie.Need-byte-requires-2
-byte-requires-2 c κs = search needs
-
-byte-requires-3 : tie.Need-byte-requires-3
-byte-requires-3 c κs = search needs
 
 returns : tie.Need-returns
 returns c =
@@ -47,4 +37,4 @@ returns-3 c =
 
 pub marked-spec : {M : Type 1} → statement M
 marked-spec =
-    tie.close (tie.spec byte-requires byte-requires-2 byte-requires-3 returns returns-2 returns-3)
+    tie.close (tie.spec (λ c κs. search needs) (λ c κs. search needs) (λ c κs. search needs) returns returns-2 returns-3)

@@ -1,29 +1,16 @@
--- `trace::cursor::past` meets its contract. Assumes nothing.
--- Each return unfolds the definition and rewrites by what the calls gave and by the tests on the way there.
+-- `trace::cursor::past` meets its contract.
 use borrow.Author.Needs.{needs}
 use Rattle.trace.specs.Reading.{past}
 use Rattle.trace.proofs.cursor.past.Statement.{statement}
 use Rattle.trace.proofs.cursor.past.Tie as tie
 
-enum-told : tie.Need-enum-told
-enum-told c = search needs
-
 add-result : tie.Need-add-result
 unfolding past
 add-result c = record { fits = rw (c .enum-told .given .1) at (c .before .before .pre) }
 
-enum-told-2 : tie.Need-enum-told-2
-enum-told-2 c = search needs
-
 add-result-2 : tie.Need-add-result-2
 unfolding past
 add-result-2 c = record { fits = rw (c .enum-told2 .given .1) at (c .before .before .pre) }
-
-enum-told-3 : tie.Need-enum-told-3
-enum-told-3 c = search needs
-
-enum-told-4 : tie.Need-enum-told-4
-enum-told-4 c = search needs
 
 returns : tie.Need-returns
 unfolding past
@@ -45,12 +32,12 @@ pub past-spec : {M : Type 1} → statement M
 past-spec =
     tie.close
     (tie.spec
-    enum-told
+    (λ c. search needs)
     add-result
-    enum-told-2
+    (λ c. search needs)
     add-result-2
-    enum-told-3
-    enum-told-4
+    (λ c. search needs)
+    (λ c. search needs)
     returns
     returns-2
     returns-3

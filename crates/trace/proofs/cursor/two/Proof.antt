@@ -1,32 +1,10 @@
--- `trace::cursor::two` meets its contract. Assumes nothing.
--- Each return unfolds the definition and rewrites by what the calls gave and by the tests on the way there.
+-- `trace::cursor::two` meets its contract.
 use borrow.Author.Needs.{needs}
 use denote.Ref.{now}
 use native.Mathlib.Omega.{arith}
 use Rattle.trace.proofs.Fields.{field-suc, field-one}
 use Rattle.trace.proofs.cursor.two.Statement.{statement}
 use Rattle.trace.proofs.cursor.two.Tie as tie
-
-byte-requires : tie.Need-byte-requires
-byte-requires c κs = search needs
-
-wide-requires : tie.Need-wide-requires
-wide-requires c κs = search needs
-
-add-byte : tie.Need-add-byte
-add-byte c = search needs
-
-byte-requires-2 : tie.Need-byte-requires-2
-byte-requires-2 c κs = search needs
-
-wide-requires-2 : tie.Need-wide-requires-2
-wide-requires-2 c κs = search needs
-
-mul-result : tie.Need-mul-result
-mul-result c = search needs
-
-add-result : tie.Need-add-result
-add-result c = search needs
 
 returns : tie.Need-returns
 returns c = (
@@ -38,11 +16,11 @@ pub two-spec : {M : Type 1} → statement M
 two-spec =
     tie.close
     (tie.spec
-    byte-requires
-    wide-requires
-    add-byte
-    byte-requires-2
-    wide-requires-2
-    mul-result
-    add-result
+    (λ c κs. search needs)
+    (λ c κs. search needs)
+    (λ c. search needs)
+    (λ c κs. search needs)
+    (λ c κs. search needs)
+    (λ c. search needs)
+    (λ c. search needs)
     returns)

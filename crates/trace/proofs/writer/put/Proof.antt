@@ -1,5 +1,4 @@
--- `trace::writer::put` meets its contract. Assumes nothing.
--- The loop keeps that the bytes left, put from the present place on, give the whole.
+-- `trace::writer::put` meets its contract.
 use Prim.Native.Nat.{_%_}
 use borrow.Author.Needs.{needs}
 use lib.Seq.{sets}
@@ -21,21 +20,12 @@ abbrev μ-loop : tie.MeasureT-loop
 loop-holds : tie.Need-loop-holds Inv-loop μ-loop
 loop-holds c = record { leads = refl; room = rw length-little (c .pre) }
 
-cast-out : tie.Need-cast-out Inv-loop μ-loop
-cast-out c = search needs
-
 slice-write-out : tie.Need-slice-write-out Inv-loop μ-loop
 slice-write-out c = omega (arith, rw length-little at (c .before .loop .inv .room), c .loop-test .taken)
 
 add-place : tie.Need-add-place Inv-loop μ-loop
 add-place c =
     omega (arith, rw length-little at (c .before .loop .inv .room), c .loop-test .taken, c .before .before .good, kept (c .before .before .args .out .now) (little (c .before .before .args .n) (c .before .before .args .x)) (c .before .loop .out) _ (c .before .before .args .at) (c .before .loop .place) (c .before .loop .inv))
-
-sub-left : tie.Need-sub-left Inv-loop μ-loop
-sub-left c = omega arith
-
-loop-less : tie.Need-loop-less Inv-loop μ-loop
-loop-less c = omega arith
 
 loop-again : tie.Need-loop-again Inv-loop μ-loop
 loop-again c =
@@ -56,11 +46,11 @@ put-spec =
     Inv-loop
     μ-loop
     loop-holds
-    cast-out
+    (λ c. search needs)
     slice-write-out
     add-place
-    sub-left
-    loop-less
+    (λ c. omega arith)
+    (λ c. omega arith)
     loop-again
     same-length
     returns)

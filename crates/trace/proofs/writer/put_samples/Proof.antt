@@ -1,16 +1,15 @@
--- `trace::writer::put_samples` meets its contract. Assumes nothing.
--- The loop keeps that the samples left, put from the present place on, give the whole.
+-- `trace::writer::put_samples` meets its contract.
 use Prim.Native.Nat.{_+_, _-_, _*_}
 use lib.ListN.{length, drop}
 use lib.Seq.{sets}
 use native.Mathlib.Omega.{arith}
-use Rattle.trace.specs.Format.{sample-bytes}
+use Rattle.trace.specs.Format.{sample-size, sample-bytes}
 use Rattle.trace.proofs.Filling.{Filling, kept, filled, samples-start, sample-room, sample-on, no-samples}
 use Rattle.trace.proofs.writer.put_samples.Statement.{statement}
 use Rattle.trace.proofs.writer.put_samples.Tie as tie
 
 abbrev Inv-loop : tie.InvT-loop
-Inv-loop out₀ at samples i₀ out i = Filling (sets out₀ at (sample-bytes samples)) out (at + 3 * i) (sample-bytes (drop i samples))
+Inv-loop out₀ at samples i₀ out i = Filling (sets out₀ at (sample-bytes samples)) out (at + sample-size * i) (sample-bytes (drop i samples))
 
 abbrev μ-loop : tie.MeasureT-loop
 μ-loop out₀ at samples i₀ out i = length samples - i

@@ -1,17 +1,17 @@
--- `trace::writer::put_writes` meets its contract. Assumes nothing.
--- The loop keeps that the writes left, put from the present place on, give the whole.
+-- `trace::writer::put_writes` meets its contract.
 use Prim.Native.Nat.{_+_, _-_, _*_}
 use lib.Seq.{sets}
 use native.Mathlib.Omega.{arith}
-use Rattle.trace.specs.Format.{write-bytes}
+use Rattle.trace.specs.Format.{header-length, write-bytes}
 use Rattle.trace.specs.Writing.{given, given-from}
+use Rattle.trace.specs.Reading.{write-start}
 use Rattle.trace.proofs.Filling.{Filling, kept, filled, writes-start, write-room, write-on, no-writes}
 use Rattle.trace.proofs.writer.put_writes.Statement.{statement}
 use Rattle.trace.proofs.writer.put_writes.Tie as tie
 
 abbrev Inv-loop : tie.InvT-loop
 Inv-loop out₀ count offsets values i₀ out i =
-    Filling (sets out₀ 8 (write-bytes (given count offsets values))) out (8 + 5 * i) (write-bytes (given-from offsets values i (count - i)))
+    Filling (sets out₀ header-length (write-bytes (given count offsets values))) out (write-start i) (write-bytes (given-from offsets values i (count - i)))
 
 abbrev μ-loop : tie.MeasureT-loop
 μ-loop out₀ count offsets values i₀ out i = count - i
@@ -49,7 +49,7 @@ loop-again c = write-on _ _ _ _ _ _ _ (c .before .before .before .before .before
 same-length : tie.Need-same-length Inv-loop μ-loop
 same-length c =
     kept (c .before .before .before .args .out .now) (write-bytes (given (c .before .before .before .args .count) (c .before .before .before .args .offsets .now) (c .before .before .before .args .values .now)))
-    _ _ 8 _ (c .before .loop .inv)
+    _ _ header-length _ (c .before .loop .inv)
 
 returns : tie.Need-returns Inv-loop μ-loop
 returns c = filled _ _ _ _ (c .before .loop .inv) (no-writes _ _ _ _ (c .loop-test .left))

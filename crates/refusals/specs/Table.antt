@@ -1,0 +1,43 @@
+-- The refusal numbers (document 01, "Refusal numbers"), each given exactly when its row says.
+use Prim.Native.Nat.{ℕ}
+use Rattle.refusals.specs.declared.Refusal.{Refusal}
+use Rattle.refusals.specs.declared.Refusal.the-variants.{Malformed, NoRegister, AccessKind, ReservedBit, Unsupported, Enabled, SampleBits, SampleTotal, StartBeyond, Mark, Version, SampleCount, Length, WriteCount, Room}
+use Rattle.refusals.specs.declared.Outcome.{Outcome}
+use Rattle.refusals.specs.declared.Outcome.the-variants.{Accepted, Refused}
+
+abbrev pub number : Refusal → ℕ
+-- the device is malformed
+number Malformed = 1
+-- no register at the offset
+number NoRegister = 2
+-- read of ICR, or write of SR, RIS, MIS
+number AccessKind = 3
+-- a reserved bit of the written value is 1
+number ReservedBit = 4
+-- CR value with JPEG 1, ESS 1, FCRC 3, or CAPTURE 1 and ENABLE 0
+number Unsupported = 5
+-- ENABLE is 1 and CWSTRT or CWSIZE is written, or a CR bit other than 0 and 14 would change
+number Enabled = 6
+-- a sample has a bit above 17
+number SampleBits = 7
+-- samples in all would pass 4,294,967,295
+number SampleTotal = 8
+-- start byte above the memory length
+number StartBeyond = 9
+-- mark is not FGT
+number Mark = 10
+-- version is not 1
+number Version = 11
+-- sample count of a file or of the writer above 16,384
+number SampleCount = 12
+-- fewer than 8 bytes, or length not as the header says
+number Length = 13
+-- more than 255 writes given to the writer
+number WriteCount = 14
+-- the writer's output does not fit
+number Room = 15
+
+-- 0 of an accepted call, else the refusal's number.
+abbrev pub outcome : Outcome → ℕ
+outcome Accepted = 0
+outcome (Refused e) = number e
