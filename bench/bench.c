@@ -1,6 +1,6 @@
 /* The cost of a sample: the library through the C header, and the plain C model of tests/c, on the same traces.
- * usage: bench lib|file|model|none|nofile WIDTH CROP OVERRUN ROWS [TIMES]
- * none only makes the trace, nofile makes it and writes its file: what lib and model, and what file, do besides running.
+ * usage: bench lib|one|file|model|none|nofile WIDTH CROP OVERRUN ROWS [TIMES]
+ * one gives the samples one at a time; none only makes the trace, nofile makes it and writes its file: what lib and model, and what file, do besides running.
  * WIDTH is 8, 10, 12 or 14; CROP and OVERRUN are 0 or 1; ROWS is the number of rows of 660 pixel clocks, two samples a clock. */
 #include <stdio.h>
 #include <stdlib.h>
@@ -45,14 +45,14 @@ static double seconds(void)
 int main(int count, char **words)
 {
     if (count < 6)
-        return fprintf(stderr, "usage: bench lib|file|model|none|nofile WIDTH CROP OVERRUN ROWS [TIMES]\n"), 2;
+        return fprintf(stderr, "usage: bench lib|one|file|model|none|nofile WIDTH CROP OVERRUN ROWS [TIMES]\n"), 2;
     unsigned width = (unsigned)atoi(words[2]), rows = (unsigned)atoi(words[5]), times = count > 6 ? (unsigned)atoi(words[6]) : 1;
     int crop = atoi(words[3]), overrun = atoi(words[4]);
     if (rows > MOST_ROWS || width < 8 || width > 14)
         return 2;
     uint32_t cr = 0x40E1u | (width - 8) / 2 << 10 | (crop ? 4u : 0), start = 100u << 16 | 100, size = 199u << 16 | 299;
     size_t n = make(rows, overrun);
-    int filed = !strcmp(words[1], "file") || !strcmp(words[1], "nofile");
+    int one = !strcmp(words[1], "one"), filed = !strcmp(words[1], "file") || !strcmp(words[1], "nofile");
     if (filed && n > LARGEST_FILE)
         n = LARGEST_FILE;
 
@@ -78,13 +78,17 @@ int main(int count, char **words)
             if (model_run(&c, memory, sizeof memory, 0, samples, n))
                 return 1;
             landed = c.landed;
-        } else if (!strcmp(words[1], "lib")) {
+        } else if (one || !strcmp(words[1], "lib")) {
             dcmi_device d;
+            dcmi_answer answer;
             dcmi_reset(&d);
             for (size_t i = 0; i < writes.count; i++)
                 dcmi_write(&d, writes.offset[i], writes.value[i]);
-            if (dcmi_run(&d, memory, sizeof memory, 0, samples, n))
+            if (!one && dcmi_run(&d, memory, sizeof memory, 0, samples, n))
                 return 1;
+            for (size_t i = 0; one && i < n; i++)
+                if (dcmi_sample(&d, memory, sizeof memory, 0, samples[i], &answer))
+                    return 1;
             landed = d.word[DCMI_W_LANDED];
         } else if (!strcmp(words[1], "file")) {
             dcmi_device d;

@@ -1,5 +1,5 @@
 #!/usr/bin/env bash
-# The table of docs/SPEED.md: instructions and time a sample, of dcmi_run, dcmi_run_file and the model of tests/c. Takes about a minute; no test.
+# The table of docs/SPEED.md: instructions and time a sample, of dcmi_run, dcmi_run_file, dcmi_sample and the model of tests/c. Takes about a minute; no test.
 set -eu
 cd "$(dirname "$0")/.."
 out=target/bench
@@ -31,3 +31,5 @@ row 14 1 0 490
 row 14 0 1 490
 row 14 0 0 49
 row 14 0 0 1960
+echo
+echo "\`dcmi_sample\`, 14 bits, 490 rows: $(cost one 14 0 0 490) instructions a call, $(took one 14 0 0 490) ns."

@@ -1,7 +1,7 @@
 // The bench sheet, run: each call's answer and what the device and memory hold after it are printed, and compared with the stored output.
-ghost use Prim.Native.Nat.{_<_, _^_};
 use device::Reading;
 use libc::STDOUT_FILENO;
+use output::word_at;
 use refusals::Outcome;
 use registers::Register;
 use rules::Device;
@@ -61,52 +61,29 @@ fn read(d: Device, offset: u32) {
     }
 }
 
-fn wide(x: u8) -> u32
-    ensures { λ r. ⌜ r < 2 ^ 8 ⌝ }
-{
-    x as u32
-}
-
-fn byte(memory: &[u8], at: usize) -> u32
-    ensures { λ r. ⌜ r < 2 ^ 8 ⌝ }
-{
-    if at < memory.len() {
-        return wide(memory[at]);
-    }
-    0
-}
-
-// The word at a byte of memory, little-endian.
-fn word(memory: &[u8], at: usize) -> u32
-    requires { ⌜ at < 2 ^ 32 ⌝ }
-{
-    byte(memory, at)
-        + 256 * byte(memory, at + 1)
-        + 65536 * byte(memory, at + 2)
-        + 16777216 * byte(memory, at + 3)
-}
-
 // A run over 8 bytes of memory, all 0 before it: its answer, the counts, CR, RIS and SR, and the two words of the memory.
 fn run(d: Device, start: usize, samples: &[u32]) -> Device {
     let mut memory = [0u8; 8];
     let r = device::run(d, &mut memory, start, samples);
     let outcome = r.outcome;
     let e = r.device;
+    let output = e.core.output;
+    let counts = output.counts;
     text(b"run from byte ");
     io::print_decimal(STDOUT_FILENO, start as u64);
     answer(outcome);
     text(b"  samples ");
-    decimal(e.counts.samples);
+    decimal(counts.samples);
     text(b", landed ");
-    decimal(e.counts.landed);
+    decimal(counts.landed);
     text(b", held ");
-    decimal(e.fifo.held);
+    decimal(output.held);
     text(b", discarded ");
-    decimal(e.counts.discarded);
+    decimal(counts.discarded);
     text(b", memory ");
-    hex(word(&memory, 0), 8);
+    hex(word_at(&memory, 0), 8);
     text(b" ");
-    hex(word(&memory, 4), 8);
+    hex(word_at(&memory, 4), 8);
     text(b"\n  ");
     read(e, Register::CR);
     text(b"  ");
@@ -200,7 +177,7 @@ fn registers() {
     let d = write(d, Register::SR, 0);
     text(b"A malformed device is refused 1:\n");
     let mut m = d;
-    m.capture.registers.ier = 32;
+    m.core.capture.registers.ier = 32;
     read(m, Register::CR);
 }
 

@@ -13,3 +13,7 @@ word (Full v) = some v
 
 abbrev pub captured : Captured → rules.Captured
 captured c = record { state = c .state; word = word (c .word) }
+
+-- The most lines, and pixels of a line, that can be counted further by one in 32 bits.
+abbrev pub most-lines : ℕ
+most-lines = 4294967294

@@ -1,11 +1,9 @@
 // Rules 4 and 5: frame end and frame start.
 ghost use mathlib.Core.Path.{_≡_};
 ghost use Prim.Native.Nat.{_+_, _<_, _≤_, _^_};
-ghost use mathlib.Core.Bool.{not, _&&_, _||_};
-ghost use lib.Dec.{eqb};
-ghost use Rattle.registers.specs.Control as fields;
 ghost use Rattle.rules.specs.State as state;
 ghost use Rattle.rules.specs.Capture as rules;
+use crate::apart;
 use crate::syncs::raise_frame;
 use registers::control;
 use rules::Capture;
@@ -37,6 +35,7 @@ pub fn clear_capture(mut s: Capture) -> Capture
 pub fn close_frame(s: Capture) -> Capture
     ensures { λ r. ⌜ r ≡ state.close-frame s ⌝ }
 {
+    let s = apart(s);
     let registers = s.registers;
     let pins = s.pins;
     let syncs = s.syncs;
@@ -56,6 +55,7 @@ fn frame_captured(s: Capture) -> Capture
     requires { ⌜ s .registers .ris ≤ 31 ⌝ }
     ensures { λ r. ⌜ r ≡ rules.frame-captured s ⌝ }
 {
+    let s = apart(s);
     if control::snapshot(s.registers.cr) {
         return clear_capture(raise_frame(s));
     }
@@ -118,6 +118,7 @@ fn open_frame(s: Capture) -> Capture
     requires { ⌜ s .rate + 1 < 2 ^ 32 ⌝ }
     ensures { λ r. ⌜ r ≡ rules.open-frame s ⌝ }
 {
+    let s = apart(s);
     let registers = s.registers;
     let pins = s.pins;
     let syncs = s.syncs;
@@ -145,7 +146,7 @@ fn open_frame(s: Capture) -> Capture
 
 // Rule 5: the frame is taken if CM is 1 or the rate counter is 0.
 fn takes(s: Capture) -> bool
-    ensures { λ r. ⌜ r ≡ (fields.snapshot (s .registers .cr) || eqb (s .rate) 0) ⌝ }
+    ensures { λ r. ⌜ r ≡ rules.takes s ⌝ }
 {
     if control::snapshot(s.registers.cr) {
         return true;
@@ -159,7 +160,7 @@ fn start_of(frame: Frame, now: Syncs, s: Capture) -> Capture
 {
     match frame {
         Frame::Closed => {
-            if starts(now, s) {
+            if starts(s, now) {
                 return open_frame(s);
             }
             s
@@ -169,8 +170,8 @@ fn start_of(frame: Frame, now: Syncs, s: Capture) -> Capture
 }
 
 // Rule 5: CAPTURE is 1, and VSYNC blanked at the last working edge and does not now.
-fn starts(now: Syncs, s: Capture) -> bool
-    ensures { λ r. ⌜ r ≡ (fields.capture (s .registers .cr) && s .syncs .vsync && not (now .vsync)) ⌝ }
+fn starts(s: Capture, now: Syncs) -> bool
+    ensures { λ r. ⌜ r ≡ rules.starts s now ⌝ }
 {
     if control::capture(s.registers.cr) {
         if s.syncs.vsync {

@@ -2,24 +2,33 @@
 // crates above, which call them on well-formed devices; each states its result as an equation with its definition.
 ghost use mathlib.Core.Path.{_≡_};
 ghost use Prim.Native.Nat.{_+_, _<_, _^_};
+ghost use Rattle.registers.specs.Control.{edm};
+ghost use Rattle.packing.specs.Packing.{Joins};
 ghost use Rattle.rules.specs.State as state;
 ghost use Rattle.rules.specs.Capture as rules;
 ghost use Rattle.rules.specs.WellFormed.{lines, pixels};
 ghost use Rattle.rules.specs.declared.Frame.the-variants.{Open};
 ghost use Rattle.rules.proofs.WellFormed.{CaptureOk};
-ghost use Rattle.capture.specs.Answers.{captured as meant};
-ghost use Rattle.capture.specs.Parts as parts;
+ghost use Rattle.capture.specs.Answers as answers;
 
 pub mod frame;
-pub mod packing;
 pub mod pixels;
 pub mod syncs;
 
+use packing::joined;
+use packing::per_word;
+use registers::control;
 use rules::Capture;
 use rules::Frame;
 use rules::Partial;
+use rules::Pins;
+use rules::Registers;
 use rules::Scan;
 use rules::Syncs;
+use samples::clock_pin;
+use samples::hsync_pin;
+use samples::pixel_data;
+use samples::vsync_pin;
 
 // The word that a sample fills, if it fills one.
 pub enum Word {
@@ -33,10 +42,42 @@ pub struct Captured {
     pub word: Word,
 }
 
-// The state with another place in the open frame. The partial word is copied by field: copied whole it is one 64-bit number to the compiler.
+// The same state, each field by itself: so the compiler keeps them apart (docs/SPEED.md).
+pub fn apart(s: Capture) -> Capture
+    ensures { λ r. ⌜ r ≡ s ⌝ }
+{
+    let frame = s.frame;
+    Capture {
+        registers: Registers {
+            cr: s.registers.cr,
+            ris: s.registers.ris,
+            ier: s.registers.ier,
+            cwstrt: s.registers.cwstrt,
+            cwsize: s.registers.cwsize,
+        },
+        pins: Pins {
+            hsync: s.pins.hsync,
+            vsync: s.pins.vsync,
+            clock: s.pins.clock,
+        },
+        frame,
+        syncs: Syncs {
+            hsync: s.syncs.hsync,
+            vsync: s.syncs.vsync,
+        },
+        rate: s.rate,
+        partial: Partial {
+            count: s.partial.count,
+            bits: s.partial.bits,
+        },
+    }
+}
+
+// The state with another place in the open frame.
 fn with_scan(taken: bool, f: Scan, s: Capture) -> Capture
     ensures { λ r. ⌜ r ≡ state.with-frame (Open taken f) s ⌝ }
 {
+    let s = apart(s);
     let registers = s.registers;
     let pins = s.pins;
     let syncs = s.syncs;
@@ -55,16 +96,41 @@ fn with_scan(taken: bool, f: Scan, s: Capture) -> Capture
     }
 }
 
-// Rules 6 to 8 at a pixel of an open frame, taken or not.
-fn pixel(s: Capture, taken: bool, f: Scan, w: u32) -> Captured
-    requires { ⌜ (f .lines + 1 < 2 ^ 32) × (f .pixels + 1 < 2 ^ 32) ⌝ }
-    requires { ⌜ (s .partial .count < rules.per-word (s .registers .cr)) × (rules.packed-bits s w < 2 ^ 32) ⌝ }
-    ensures { λ r. ⌜ meant r ≡ rules.pixel s taken f w ⌝ }
+// Rule 8: the datum joins the partial word, which is then partial still, or full.
+fn pack(mut s: Capture, datum: u32) -> Captured
+    requires { ⌜ Joins (edm (s .registers .cr)) (s .partial .count) (s .partial .bits) datum ⌝ }
+    ensures { λ r. ⌜ answers.captured r ≡ rules.pack s datum ⌝ }
 {
+    let edm = control::edm(s.registers.cr);
+    let bits = joined(edm, s.partial.count, s.partial.bits, datum);
+    let count = s.partial.count + 1;
+    if count < per_word(edm) {
+        let partial = Partial { count, bits };
+        s.partial = partial;
+        return Captured {
+            state: s,
+            word: Word::Nothing,
+        };
+    }
+    let empty = Partial { count: 0, bits: 0 };
+    s.partial = empty;
+    Captured {
+        state: s,
+        word: Word::Full(bits),
+    }
+}
+
+// Rules 6 to 8 at a pixel of an open frame, taken or not.
+fn pixel(s: Capture, taken: bool, f: Scan, datum: u32) -> Captured
+    requires { ⌜ (f .lines + 1 < 2 ^ 32) × (f .pixels + 1 < 2 ^ 32) ⌝ }
+    requires { ⌜ Joins (edm (s .registers .cr)) (s .partial .count) (s .partial .bits) datum ⌝ }
+    ensures { λ r. ⌜ answers.captured r ≡ rules.pixel s taken f datum ⌝ }
+{
+    let s = apart(s);
     let next = pixels::next_pixel(s, f);
     let placed = with_scan(taken, next, s);
     if pixels::captured(s, taken, next) {
-        return packing::pack(placed, w);
+        return pack(placed, datum);
     }
     Captured {
         state: placed,
@@ -73,24 +139,24 @@ fn pixel(s: Capture, taken: bool, f: Scan, w: u32) -> Captured
 }
 
 // Rule 6 where neither sync blanks: in an open frame the edge carries a pixel.
-fn pixel_in(frame: Frame, s: Capture, w: u32) -> Captured
+fn pixel_in(frame: Frame, s: Capture, datum: u32) -> Captured
     requires { ⌜ (lines frame + 1 < 2 ^ 32) × (pixels frame + 1 < 2 ^ 32) ⌝ }
-    requires { ⌜ (s .partial .count < rules.per-word (s .registers .cr)) × (rules.packed-bits s w < 2 ^ 32) ⌝ }
-    ensures { λ r. ⌜ meant r ≡ rules.pixel-in frame s state.not-blanking w ⌝ }
+    requires { ⌜ Joins (edm (s .registers .cr)) (s .partial .count) (s .partial .bits) datum ⌝ }
+    ensures { λ r. ⌜ answers.captured r ≡ rules.pixel-in frame s state.not-blanking datum ⌝ }
 {
     match frame {
         Frame::Closed => Captured {
             state: s,
             word: Word::Nothing,
         },
-        Frame::Open(taken, f) => pixel(s, taken, f, w),
+        Frame::Open(taken, f) => pixel(s, taken, f, datum),
     }
 }
 
 // Rules 3 to 8 at a working edge at which neither sync blanks: no flag rises and no frame ends.
-fn plain_edge(s: Capture, w: u32) -> Captured
-    requires { ⌜ CaptureOk 4294967294 s ⌝ }
-    ensures { λ r. ⌜ meant r ≡ rules.at-edge s state.not-blanking w ⌝ }
+fn plain_edge(s: Capture, datum: u32) -> Captured
+    requires { ⌜ CaptureOk answers.most-lines s ⌝ }
+    ensures { λ r. ⌜ answers.captured r ≡ rules.at-edge s state.not-blanking datum ⌝ }
 {
     let now = Syncs {
         hsync: false,
@@ -98,42 +164,59 @@ fn plain_edge(s: Capture, w: u32) -> Captured
     };
     let started = frame::frame_start(s, now);
     let frame = started.frame;
-    pixel_in(frame, started, w)
+    let c = pixel_in(frame, started, datum);
+    let word = c.word;
+    let mut state = c.state;
+    state.syncs.hsync = false;
+    state.syncs.vsync = false;
+    Captured { state, word }
 }
 
 // Rules 3 to 5 at a working edge at which a sync blanks: it carries no pixel.
-fn blanked_edge(s: Capture, now: Syncs) -> Capture
-    requires { ⌜ CaptureOk 4294967294 s ⌝ }
-    ensures { λ r. ⌜ r ≡ rules.frame-start (rules.frame-end (rules.sync-flags s now) now) now ⌝ }
+fn blanked_edge(s: Capture, now: Syncs) -> Captured
+    requires { ⌜ CaptureOk answers.most-lines s ⌝ }
+    ensures { λ r. ⌜ answers.captured r ≡ rules.remember-syncs now (rules.no-word (rules.frame-start (rules.frame-end (rules.sync-flags s now) now) now)) ⌝ }
 {
     let flagged = syncs::sync_flags(s, now);
     let ended = frame::frame_end(flagged, now);
-    frame::frame_start(ended, now)
-}
-
-// Rules 3 to 8 at a working edge.
-fn at_edge(s: Capture, now: Syncs, w: u32) -> Captured
-    requires { ⌜ CaptureOk 4294967294 s ⌝ }
-    ensures { λ r. ⌜ meant r ≡ rules.at-edge s now w ⌝ }
-{
-    if syncs::any_blanks(now) {
-        return Captured {
-            state: blanked_edge(s, now),
-            word: Word::Nothing,
-        };
+    let mut state = frame::frame_start(ended, now);
+    state.syncs.hsync = now.hsync;
+    state.syncs.vsync = now.vsync;
+    Captured {
+        state,
+        word: Word::Nothing,
     }
-    plain_edge(s, w)
 }
 
-// Rules 3 to 8 at a working edge, and whether each sync blanks remembered. Lines and pixels can be counted further by one.
-pub fn edge(s: Capture, w: u32) -> Captured
-    requires { ⌜ CaptureOk 4294967294 s ⌝ }
-    ensures { λ r. ⌜ meant r ≡ parts.at-edge s w ⌝ }
+// Rule 2: the sample's levels are remembered.
+fn remember_pins(mut s: Capture, w: u32) -> Capture
+    ensures { λ r. ⌜ r ≡ rules.remember-pins w s ⌝ }
 {
-    let now = syncs::blanking(s, w);
-    let c = at_edge(s, now, w);
-    let word = c.word;
-    let mut state = c.state;
-    state.syncs = now;
-    Captured { state, word }
+    let hsync = hsync_pin(w);
+    let vsync = vsync_pin(w);
+    let clock = clock_pin(w);
+    s.pins.hsync = hsync;
+    s.pins.vsync = vsync;
+    s.pins.clock = clock;
+    s
+}
+
+// Rules 2 to 8. Lines and pixels can be counted further by one.
+pub fn sample(s: Capture, w: u32) -> Captured
+    requires { ⌜ CaptureOk answers.most-lines s ⌝ }
+    ensures { λ r. ⌜ answers.captured r ≡ rules.capture-sample s w ⌝ }
+{
+    let s = apart(s);
+    let seen = remember_pins(s, w);
+    if syncs::goes_on(s, w) {
+        let now = syncs::blanking(seen, w);
+        if syncs::any_blanks(now) {
+            return blanked_edge(seen, now);
+        }
+        return plain_edge(seen, pixel_data(w));
+    }
+    Captured {
+        state: seen,
+        word: Word::Nothing,
+    }
 }

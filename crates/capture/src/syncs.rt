@@ -1,5 +1,5 @@
 // Rules 2 and 3: the working edge, blanking, and the flags VSYNC and LINE.
-ghost use mathlib.Core.Bool.{cond, _||_, Bool·beq};
+ghost use mathlib.Core.Bool.{cond, _&&_, Bool·beq};
 ghost use mathlib.Core.Path.{_≡_};
 ghost use Prim.Native.Nat.{_+_, _/_, _%_, _<_, _≤_, _^_};
 ghost use lib.Dec.{eqb};
@@ -12,9 +12,9 @@ use samples::clock_pin;
 use samples::hsync_pin;
 use samples::vsync_pin;
 
-// Rule 2: the clock fell (PCKPOL 0) or rose (PCKPOL 1) since the last sample, with ENABLE 1.
-pub fn working_edge(s: Capture, w: u32) -> bool
-    ensures { λ r. ⌜ r ≡ rules.working-edge s w ⌝ }
+// Rule 2: the sample goes on. ENABLE is 1, and the clock fell (PCKPOL 0) or rose (PCKPOL 1) since the last sample.
+pub fn goes_on(s: Capture, w: u32) -> bool
+    ensures { λ r. ⌜ r ≡ (rules.working-edge s w && rules.enabled s) ⌝ }
 {
     let cr = s.registers.cr;
     let before = s.pins.clock;
@@ -53,7 +53,7 @@ pub fn blanking(s: Capture, w: u32) -> Syncs
 
 // Whether a sync blanks.
 pub fn any_blanks(now: Syncs) -> bool
-    ensures { λ r. ⌜ r ≡ (now .hsync || now .vsync) ⌝ }
+    ensures { λ r. ⌜ r ≡ rules.any-blanks now ⌝ }
 {
     if now.hsync {
         return true;

@@ -9,7 +9,6 @@ use Rattle.refusals.specs.Refusals.{Answer, refused, answered}
 use Rattle.rules.specs.declared.Device.{Device}
 use Rattle.rules.specs.State.{fresh}
 use Rattle.rules.specs.Answers.{Changed}
-use Rattle.rules.specs.Queue as queue
 use Rattle.rules.specs.RegisterCalls as registers
 use Rattle.rules.specs.Run as runs
 use Rattle.trace.specs.declared.Write.{Write}
@@ -101,15 +100,15 @@ abbrev pub byte-word : Option ℕ → ℕ
 byte-word none = 0
 byte-word (some byte) = byte
 
-abbrev pub packed-word : queue.Packed → ℕ
-packed-word queue.nothing = 0
-packed-word (queue.completed v) = 1
-packed-word queue.lost = 2
+abbrev pub packed-word : runs.Packed → ℕ
+packed-word runs.nothing = 0
+packed-word (runs.completed v) = 1
+packed-word runs.lost = 2
 
-abbrev pub value-word : queue.Packed → ℕ
-value-word queue.nothing = 0
-value-word (queue.completed v) = v
-value-word queue.lost = 0
+abbrev pub value-word : runs.Packed → ℕ
+value-word runs.nothing = 0
+value-word (runs.completed v) = v
+value-word runs.lost = 0
 
 abbrev pub answer-words : runs.SampleAnswer → List ℕ
 answer-words a = landed-word (a .landing) ∷ byte-word (a .landing) ∷ packed-word (a .packed) ∷ value-word (a .packed) ∷ []

@@ -1,5 +1,4 @@
--- The premises can be met: a scenario with runs, single samples and refused calls, run over the rules.
--- The idea: five words are noted in 22 samples, and the four that grant stand in every 16 of them. Assumes nothing.
+-- The premises can be met: a scenario with runs, single samples and refused calls. Five words are noted in 22 samples, and the four that grant stand in every 16 of them.
 use mathlib.Core.Bool.{true, false}
 use mathlib.Core.List.{[], _∷_, _++_}
 use mathlib.Core.Path.{_≡_, refl, ap}

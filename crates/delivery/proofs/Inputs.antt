@@ -1,11 +1,10 @@
--- Samples as the queue sees them: whether each grants the bus, and the word that the capture rules note at it, if any. Their words and
--- grants are those of the claim. The idea: all by induction on the samples, from any capture state. Assumes nothing.
+-- Samples as the queue sees them: whether each grants the bus, and the word that the capture rules note at it, if any. Their words and grants are the claim's.
 use mathlib.Core.Bool.{cond}
 use mathlib.Core.List.{List, [], _∷_, _++_}
 use mathlib.Core.Option.{Option, none, some}
 use mathlib.Core.Path.{_≡_, refl, ap}
 use Prim.Native.Nat.{ℕ, zero, suc, _+_}
-use lib.ListN.{length, take}
+use lib.ListN.{length, take, drop, length-map}
 use Rattle.queue.specs.Queue.{Input}
 use Rattle.queue.specs.Queue as queue
 use Rattle.rules.specs.declared.Capture.{Capture}
@@ -14,10 +13,13 @@ use Rattle.samples.specs.Samples.{bus-grant}
 use Rattle.delivery.specs.Noted.{note, noted, words}
 use Rattle.delivery.specs.Delivery.{grants}
 
--- The queue's inputs, and the capture state, after some samples.
+-- The sample w in the capture state s; some samples; and the capture state after them.
+abbrev pub input : Capture → ℕ → Input ℕ
+input s w = record { grant = bus-grant w; word = capture-sample s w .word }
+
 unfoldable pub inputs : Capture → List ℕ → List (Input ℕ)
 inputs s [] = []
-inputs s (w ∷ ws) = record { grant = bus-grant w; word = capture-sample s w .word } ∷ inputs (capture-sample s w .state) ws
+inputs s (w ∷ ws) = input s w ∷ inputs (capture-sample s w .state) ws
 
 unfoldable pub captures : Capture → List ℕ → Capture
 captures s [] = s
@@ -27,11 +29,6 @@ pub inputs-append : (s : Capture) (xs ys : List ℕ) → inputs s (xs ++ ys) ≡
 unfolding inputs captures
 inputs-append s [] ys = refl
 inputs-append s (w ∷ ws) ys = rw (inputs-append (capture-sample s w .state) ws ys)
-
-pub captures-append : (s : Capture) (xs ys : List ℕ) → captures s (xs ++ ys) ≡ captures (captures s xs) ys
-unfolding captures
-captures-append s [] ys = refl
-captures-append s (w ∷ ws) ys = captures-append (capture-sample s w .state) ws ys
 
 pub inputs-take : (s : Capture) (n : ℕ) (xs : List ℕ) → inputs s (take n xs) ≡ take n (inputs s xs)
 unfolding inputs
@@ -44,10 +41,16 @@ unfolding inputs
 inputs-length s [] = refl
 inputs-length s (w ∷ ws) = ap suc (inputs-length (capture-sample s w .state) ws)
 
-pub inputs-grants : (s : Capture) (xs : List ℕ) → queue.grants (inputs s xs) ≡ grants xs
+inputs-grants : (s : Capture) (xs : List ℕ) → queue.grants (inputs s xs) ≡ grants xs
 unfolding inputs grants queue.grants
 inputs-grants s [] = refl
 inputs-grants s (w ∷ ws) = ap (λ (n : ℕ). cond (bus-grant w) 1 0 + n) (inputs-grants (capture-sample s w .state) ws)
+
+pub window-grants : (s : Capture) (n k : ℕ) (xs : List ℕ) → queue.grants (take n (drop k (inputs s xs))) ≡ grants (take n (drop k xs))
+unfolding inputs
+window-grants s n zero xs = rw (← inputs-take, inputs-grants)
+window-grants s n (suc k) [] = rw (← inputs-take s n [], inputs-grants)
+window-grants s n (suc k) (w ∷ ws) = window-grants (capture-sample s w .state) n k ws
 
 -- The words that arrive are the noted ones, whatever number the samples begin with.
 pub inputs-words : (n : ℕ) (s : Capture) (xs : List ℕ) → queue.words (inputs s xs) ≡ words (noted n s xs)
@@ -55,9 +58,13 @@ unfolding inputs noted note queue.words
 inputs-words n s [] = refl
 inputs-words n s (w ∷ ws) = go (capture-sample s w .word) (inputs-words (n + 1) (capture-sample s w .state) ws)
   where
-    go : (o : Option ℕ)
-        → queue.words (inputs (capture-sample s w .state) ws) ≡ words (noted (n + 1) (capture-sample s w .state) ws)
-        → queue.words (record { grant = bus-grant w; word = o } ∷ inputs (capture-sample s w .state) ws)
-        ≡ words (note (n + 1) o ++ noted (n + 1) (capture-sample s w .state) ws)
+    next : Capture
+    next = capture-sample s w .state
+
+    go : (o : Option ℕ) → queue.words (inputs next ws) ≡ words (noted (n + 1) next ws)
+        → queue.words (record { grant = bus-grant w; word = o } ∷ inputs next ws) ≡ words (note (n + 1) o ++ noted (n + 1) next ws)
     go none e = e
     go (some v) e = ap (λ (r : List ℕ). v ∷ r) e
+
+pub count-words : (s : Capture) (xs : List ℕ) → length (queue.words (inputs s xs)) ≡ length (noted 0 s xs)
+count-words s xs = rw (inputs-words 0) (length-map (noted 0 s xs) (λ n. n .word))

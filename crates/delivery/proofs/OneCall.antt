@@ -1,5 +1,4 @@
 -- One call: an accepted one leaves what its samples make, a refused one everything as it was, and a single sample says what its step answers.
--- The idea: each result of a call is a choice by the refusal number, so all are one choice of two systems. Assumes nothing.
 use mathlib.Core.Bool.{Bool, true, false, cond}
 use mathlib.Core.List.{List, [], _∷_, _++_}
 use mathlib.Core.Option.{none, some}
@@ -10,10 +9,9 @@ use lib.Dec.{eqb, ltb}
 use lib.ListN.{length, take, drop}
 use borrow.Author.Tests.{eqb-true, ltb-false}
 use Rattle.refusals.specs.Refusals.{_⇒_, refused, answered}
-use Rattle.rules.specs.Queue.{Packed}
 use Rattle.rules.specs.WellFormed.{malformed}
 use Rattle.samples.specs.Samples.{any-bad}
-use Rattle.rules.specs.Run.{step, Ran, steps, run-refusal, run, SampleAnswer, sample}
+use Rattle.rules.specs.Run.{Packed, step, Ran, steps, run-refusal, run, SampleAnswer, sample}
 use Rattle.refusals.proofs.Accepted.{accepted as passed}
 use Rattle.delivery.specs.Calls.{Call, a-run, a-sample, brings, System, accepted, after-call, said, says}
 
@@ -47,7 +45,7 @@ within-memory start s c e =
     malformed (s .device) ⇒ 1 ∷
     ltb (length (s .memory)) start ⇒ 9 ∷
     any-bad (brings c) ⇒ 7 ∷
-    ltb 4294967295 (s .device .counts .samples + length (brings c)) ⇒ 8 ∷
+    ltb 4294967295 (s .device .core .output .counts .samples + length (brings c)) ⇒ 8 ∷
     [] in
     let (formed, (fits, rest)) = passed tests (omega arith) (eqb-true _ 0 e) in
     ltb-false _ _ fits

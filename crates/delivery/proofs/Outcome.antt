@@ -1,5 +1,4 @@
--- What a closed scenario comes to, by computation over the rules (`outcome`), and the premises from their test.
--- The idea: each tail of the samples is tested, so each window is; unfolding `outcome` unfolds every rule. Assumes nothing.
+-- What a closed scenario comes to, by computation over the rules (`outcome`), and the premises from their test; unfolding `outcome` unfolds every rule.
 use mathlib.Core.Bool.{Bool, true, _&&_, _||_}
 use mathlib.Core.List.{List, [], _∷_, map}
 use mathlib.Core.Path.{_≡_}
@@ -9,19 +8,14 @@ use lib.Dec.{ltb, leb}
 use lib.ListN.{length, take, drop, length-drop}
 use borrow.Author.Tests.{leb-true, le-ltb}
 use Rattle.bits.specs.Bits.{bit}
-use Rattle.registers.specs.Control.{unsupported}
-use Rattle.registers.specs.Map.{register-at}
-use Rattle.rules.specs.State.{fresh, depth, raised, lowered, with-cr, with-ris, with-ier, with-cwstrt, with-cwsize, with-registers, with-pins, with-syncs, with-frame, with-rate, with-partial, raise, clear-capture, close-frame, with-capture}
-use Rattle.rules.specs.Capture.{no-word, working-edge, remember-pins, blanking, vsync-flag, line-flag, sync-flags, frame-captured, end-of, frame-end, rate-period, next-rate, open-frame, start-of, frame-start, line-begins, next-pixel, within, in-window, captured, width, lane, per-word, packed-bits, pack, pixel, pixel-in, pixel-edge, at-edge, remember, capture-sample}
-use Rattle.rules.specs.Queue.{pop, push, bytes, room, stored, lands, landed, grant, discard, count-word, hold, lose-frame, overrun, full-word, complete}
-use Rattle.rules.specs.WellFormed.{all-zero, bad-fifo, unused-bits, full-partial, excluded, bad-flags, active-disabled, partial-outside, bad-rate, above-samples, bad-place, bad-counts, malformed}
-use Rattle.rules.specs.RegisterCalls.{changes-setup, write-refusal, enabling, disabling, switch-enable, capture-rises, switch-capture, write-control, clear-flags, write-register, write-at, write}
-use Rattle.samples.specs.Samples.{bad-sample, any-bad}
-use Rattle.rules.specs.Run.{count-sample, after-grant, step, steps, run-refusal, run, in-memory, sample}
+use Rattle.output.specs.Output.{depth, contents}
+use Rattle.rules.specs.State.{output-of}
+use Rattle.rules.specs.Run.{in-memory, sample}
+use Rattle.rules.proofs.EveryRule.{every-rule}
 use Rattle.bits.proofs.Booleans.{and-true}
 use Rattle.delivery.specs.Calls.{Write, written, Call, System, accepted, after-call, samples, inside, moments}
 use Rattle.delivery.specs.Noted.{write-found, noted-write, noted-writes, note, noted, spacing}
-use Rattle.delivery.specs.Delivery.{contents, grants, Scenario, set-up, trace, distance, noted-by, Premises}
+use Rattle.delivery.specs.Delivery.{grants, Scenario, set-up, trace, distance, noted-by, Premises}
 
 -- A test that each tail of a list passes.
 abbrev pub tails : (List ℕ → Bool) → List ℕ → Bool
@@ -65,7 +59,7 @@ pub record Outcome : Type 0 where
   pub overrun : Bool
 
 unfoldable pub outcome : ℕ → ℕ → Scenario → Outcome
-unfolding final grants contents spacing written accepted after-call samples inside moments noted-write noted-writes write-found note noted unsupported register-at fresh raised lowered with-cr with-ris with-ier with-cwstrt with-cwsize with-registers with-pins with-syncs with-frame with-rate with-partial raise clear-capture close-frame with-capture no-word working-edge remember-pins blanking vsync-flag line-flag sync-flags frame-captured end-of frame-end rate-period next-rate open-frame start-of frame-start line-begins next-pixel within in-window captured width lane per-word packed-bits pack pixel pixel-in pixel-edge at-edge remember capture-sample pop push bytes room stored lands landed grant discard count-word hold lose-frame overrun full-word complete all-zero bad-fifo unused-bits full-partial excluded bad-flags active-disabled partial-outside bad-rate above-samples bad-place bad-counts malformed changes-setup write-refusal enabling disabling switch-enable capture-rises switch-capture write-control clear-flags write-register write-at write count-sample after-grant step steps bad-sample any-bad run-refusal run in-memory sample
+unfolding final grants spacing written accepted after-call samples inside moments noted-write noted-writes write-found note noted every-rule in-memory sample
 outcome w g x =
     let d = final (x .start) (set-up x) (x .calls) .device in
     record {
@@ -74,11 +68,11 @@ outcome w g x =
       moments = length (moments (x .start) (set-up x) 0 (x .calls));
       samples = length (trace x);
       noted = map (λ n. n .sample) (noted-by x (length (trace x)));
-      completed = d .counts .completed;
-      landed = d .counts .landed;
-      discarded = d .counts .discarded;
-      held = contents (d .fifo);
-      overrun = bit 1 (d .capture .registers .ris);
+      completed = d .core .output .counts .completed;
+      landed = d .core .output .counts .landed;
+      discarded = d .core .output .counts .discarded;
+      held = contents (output-of d);
+      overrun = bit 1 (d .core .capture .registers .ris);
     }
 
 pub windows : (w g : ℕ) (x : Scenario) → outcome w g x .met ≡ true → Windows w g x

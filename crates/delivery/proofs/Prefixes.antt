@@ -1,25 +1,19 @@
 -- A list of calls is the list of its accepted samples: each moment is that after a first part of them (`Reached`).
--- The idea: an accepted call adds its samples, a refused one none, and both leave the bytes before the start byte. Assumes nothing.
 use mathlib.Core.Bool.{Bool, true, false, cond}
 use mathlib.Core.List.{List, [], _∷_, _++_, append-assoc, append-nil}
 use mathlib.Core.Option.{Option, none, some}
 use mathlib.Core.Path.{_≡_, refl}
 use Prim.Native.Nat.{ℕ, _+_, _≤_}
 use native.Mathlib.Omega.{arith}
-use lib.ListN.{length, take, drop, length-append, take-append-drop}
+use lib.ListN.{length, take, drop, length-append}
 use lib.Seq.{append-snoc, length-take-le, take-at, drop-at}
-use Rattle.rules.specs.declared.Device.{Device}
-use Rattle.rules.specs.Queue.{Packed}
-use Rattle.rules.specs.Run.{step, steps}
-use Rattle.rules.proofs.Booleans.{by-cond}
+use Rattle.rules.specs.Run.{Packed, steps}
+use Rattle.bits.proofs.Booleans.{by-cond}
+use Rattle.laws.proofs.Keeps.{steps-append}
 use Rattle.delivery.specs.Calls.{Call, a-run, a-sample, brings, System, accepted, after-call, samples, says, Moment, inside, moments}
 use Rattle.delivery.specs.Delivery.{All}
+use Rattle.delivery.proofs.Following.{answer}
 use Rattle.delivery.proofs.OneCall.{ran, sampled, accepts, after-call-is, within-memory, none-some, sample-says}
-
-steps-append : (d : Device) (b xs ys : List ℕ) → steps d b (xs ++ ys) ≡ steps (steps d b xs .device) (steps d b xs .buffer) ys
-unfolding steps
-steps-append d b [] ys = refl
-steps-append d b (w ∷ ws) ys = steps-append (step d b w .device) (step d b w .buffer) ws ys
 
 all-join : {A : Type 0} (P : A → Type 0) (xs : List A) (y : A) (ys : List A) → All P xs → P y → All P ys → All P (xs ++ y ∷ ys)
 all-join P [] y ys p q r = (q, r)
@@ -27,10 +21,10 @@ all-join P (x ∷ xs) y ys p q r = (p .0, all-join P xs y ys (p .1) q r)
 
 module _ (start : ℕ) (s₀ : System) where
   -- Device and memory after samples xs. The memory is told by its bytes before the start byte and by the frame buffer.
-  record After (xs : List ℕ) (s : System) : Type 0 where
-    device : s .device ≡ ran start s₀ xs .device
-    front : take start (s .memory) ≡ take start (s₀ .memory)
-    buffer : drop start (s .memory) ≡ ran start s₀ xs .buffer
+  pub record After (xs : List ℕ) (s : System) : Type 0 where
+    pub device : s .device ≡ ran start s₀ xs .device
+    pub front : take start (s .memory) ≡ take start (s₀ .memory)
+    pub buffer : drop start (s .memory) ≡ ran start s₀ xs .buffer
 
   sampled-after : (xs ws : List ℕ) (s : System) → start ≤ length (s .memory) → After xs s → After (xs ++ ws) (sampled start s ws)
   sampled-after xs ws s fits a =
@@ -54,7 +48,7 @@ module _ (start : ℕ) (s₀ : System) where
     pub before : List ℕ
     pub last : ℕ
     pub split : xs ≡ before ++ last ∷ []
-    pub packed : p ≡ step (ran start s₀ before .device) (ran start s₀ before .buffer) last .packed
+    pub packed : p ≡ answer (ran start s₀ before) last
 
   says-answered : (xs : List ℕ) (s : System) (c : Call) → After xs s → (p : Packed) → says start s c ≡ some p
       → Answered (xs ++ accepted start s c) p
@@ -69,24 +63,14 @@ module _ (start : ℕ) (s₀ : System) where
     pub so-far : List ℕ
     pub rest : List ℕ
     pub whole : trace ≡ so-far ++ rest
-    pub device : m .device ≡ sampled start s₀ so-far .device
-    pub memory : m .memory ≡ sampled start s₀ so-far .memory
+    pub at : After so-far (record { device = m .device; memory = m .memory })
     pub count : m .count ≡ length so-far
     pub answers : (p : Packed) → m .packed ≡ some p → Answered so-far p
 
   reached : (xs zs : List ℕ) (n : ℕ) (s : System) (o : Option Packed) → n ≡ length xs → After xs s
       → ((p : Packed) → o ≡ some p → Answered xs p)
       → Reached (xs ++ zs) (record { device = s .device; memory = s .memory; count = n; packed = o })
-  reached xs zs n s o e a said =
-      record {
-        so-far = xs;
-        rest = zs;
-        whole = refl;
-        device = a .device;
-        memory = rw (← a .front, ← a .buffer, take-append-drop);
-        count = e;
-        answers = said;
-      }
+  reached xs zs n s o e a said = record { so-far = xs; rest = zs; whole = refl; at = a; count = e; answers = said }
 
   -- The moments inside an accepted run.
   inside-reached : (xs ws zs : List ℕ) (n : ℕ) (s : System) → n ≡ length xs → start ≤ length (s .memory) → After xs s

@@ -1,104 +1,89 @@
--- After the register writes from reset nothing is sampled, held or counted, and the capture state is what the register rules alone make.
--- The idea: of a well-formed device the register tests alone refuse a write, and from an empty FIFO nothing is discarded. Assumes nothing.
+-- After the register writes from reset nothing is sampled, held or counted, and the capture state is what the register rules alone make, with RIS still 0.
 use mathlib.Core.Bool.{Bool, true, false, cond}
 use mathlib.Core.List.{List, [], _∷_}
 use mathlib.Core.Path.{_≡_, refl}
-use Prim.Native.Nat.{ℕ}
+use Prim.Native.Nat.{ℕ, _-_}
 use native.Mathlib.Omega.{arith}
 use lib.Dec.{eqb}
+use Rattle.registers.specs.Control.{enable}
 use Rattle.registers.specs.Map.{register-at}
+use Rattle.registers.specs.declared.Register.the-variants.{Control, Status, RawStatus, InterruptEnable, MaskedStatus, InterruptClear, WindowStart, WindowSize}
 use Rattle.registers.specs.declared.Found.{Found}
 use Rattle.registers.specs.declared.Found.the-variants.{At, Nothing}
-use Rattle.rules.specs.declared.Capture.{Capture}
-use Rattle.rules.specs.declared.Fifo.{Fifo}
-use Rattle.rules.specs.declared.Counts.{Counts}
-use Rattle.rules.specs.declared.Device.{Device}
-use Rattle.rules.specs.State.{fresh, empty, with-capture}
 use Rattle.refusals.specs.Refusals.{first}
-use Rattle.rules.specs.Queue.{discard}
-use Rattle.rules.specs.RegisterCalls.{disables, register-tests, write-refusal, write-at, write}
+use Rattle.output.specs.Output.{OutputState, with-held, holding, fresh-output, with-counts, count-discarded, discard}
+use Rattle.rules.specs.declared.Capture.{Capture}
+use Rattle.rules.specs.State.{device, fresh-capture, fresh, close-frame, with-cr, with-ris, with-ier, with-cwstrt, with-cwsize, with-registers, with-syncs, with-frame, with-rate, with-partial}
+use Rattle.rules.specs.RegisterCalls.{disables, register-tests, write-refusal, enabling, disabling, switch-enable, capture-rises, switch-capture, write-control, clear-flags, write-register, write-at, write}
 use Rattle.rules.specs.WellFormed.{malformed}
-use Rattle.rules.proofs.Booleans.{either}
+use Rattle.bits.proofs.Booleans.{either}
 use Rattle.laws.proofs.Keeps.{fresh-well-formed}
 use Rattle.laws.proofs.KeepsWrites.{write-keeps}
 use Rattle.delivery.specs.Calls.{Write, written}
 use Rattle.delivery.specs.Noted.{write-found, noted-write, noted-writes}
 
--- Nothing is sampled, held or counted: of FIFO, place and counts, and of a device.
-pub record Zero (f : Fifo) (k : ℕ) (c : Counts) : Type 0 where
-  pub fifo : f ≡ empty
-  pub place : k ≡ 0
-  pub samples : c .samples ≡ 0
-  pub completed : c .completed ≡ 0
-  pub landed : c .landed ≡ 0
-  pub discarded : c .discarded ≡ 0
-
-abbrev pub Unused : Device → Type 0
-Unused d = Zero (d .fifo) (d .place) (d .counts)
-
--- A well-formed device of which nothing is used, with the capture state s.
-pub record SetUp (s : Capture) (d : Device) : Type 0 where
-  pub formed : malformed d ≡ false
-  pub capture : d .capture ≡ s
-  pub unused : Unused d
-
 -- The effect of a write. Where ENABLE falls, no word is held, and none is discarded.
-discard-unused : (d : Device) → Unused d → Unused (discard 0 d)
-unfolding discard
-discard-unused d u =
-    record {
-      fifo = refl;
-      place = u .place;
-      samples = u .samples;
-      completed = u .completed;
-      landed = u .landed;
-      discarded = rw (u .fifo) (omega arith);
-    }
+write-at-is : (r : Found) (v : ℕ) (s : Capture) → write-at (device s fresh-output) r v ≡ device (write-found r v s) fresh-output
+unfolding write-at write-found discard fresh-output holding with-held count-discarded with-counts
+write-at-is Nothing v s = refl
+write-at-is (At r) v s =
+    either (λ (x : OutputState). device (write-register r v s) x ≡ device (write-register r v s) fresh-output) (disables (s .registers .cr) r v) refl refl
 
-write-at-unused : (d : Device) (r : Found) (v : ℕ) → Unused d → Unused (write-at d r v)
-unfolding write-at with-capture
-write-at-unused d Nothing v u = u
-write-at-unused d (At r) v u = either Unused (disables (d .capture .registers .cr) r v) (discard-unused d u) u
-
-write-at-capture : (d : Device) (r : Found) (v : ℕ) → write-at d r v .capture ≡ write-found r v (d .capture)
-unfolding write-at write-found with-capture
-write-at-capture d Nothing v = refl
-write-at-capture d (At r) v = refl
-
--- A write, accepted or refused.
-write-unused : (d : Device) (w : Write) → Unused d → Unused (write d (w .offset) (w .value) .device)
-unfolding write
-write-unused d w u =
-    either Unused (eqb (write-refusal d (w .offset) (w .value)) 0) (write-at-unused d (register-at (w .offset)) (w .value) u) u
-
-chosen : (b : Bool) (x y : Device) (s : Capture) → x .capture ≡ s → cond b x y .capture ≡ cond b s (y .capture)
-chosen true x y s e = e
-chosen false x y s e = refl
-
-write-capture : (d : Device) (w : Write) → malformed d ≡ false
-    → write d (w .offset) (w .value) .device .capture ≡ noted-write (d .capture) w
+-- A write, accepted or refused: of a well-formed device the register tests alone refuse it.
+write-is : (s : Capture) (w : Write) → malformed (device s fresh-output) ≡ false
+    → write (device s fresh-output) (w .offset) (w .value) .device ≡ device (noted-write s w) fresh-output
 unfolding write write-refusal noted-write
-write-capture d w formed =
-    let r = register-at (w .offset) in
-    rw formed (chosen (eqb (first (register-tests (d .capture .registers .cr) r (w .value))) 0) _ d _ (write-at-capture d r (w .value)))
+write-is s w formed = rw formed (go (eqb (first (register-tests (s .registers .cr) (register-at (w .offset)) (w .value))) 0))
+  where
+    r : Found
+    r = register-at (w .offset)
 
-write-set-up : (s : Capture) (d : Device) (w : Write) → SetUp s d → SetUp (noted-write s w) (write d (w .offset) (w .value) .device)
-write-set-up s d w h =
-    record {
-      formed = write-keeps d (w .offset) (w .value) (w .fits) (h .formed);
-      capture = rw (← h .capture) (write-capture d w (h .formed));
-      unused = write-unused d w (h .unused);
-    }
+    go : (b : Bool) → cond b (write-at (device s fresh-output) r (w .value)) (device s fresh-output) ≡ device (cond b (write-found r (w .value) s) s) fresh-output
+    go true = write-at-is r (w .value) s
+    go false = refl
 
--- All writes, from any such device, and from reset.
-writes-set-up : (s : Capture) (d : Device) (ws : List Write) → SetUp s d → SetUp (noted-writes s ws) (written d ws)
-unfolding noted-writes written
-writes-set-up s d [] h = h
-writes-set-up s d (w ∷ ws) h = writes-set-up _ _ ws (write-set-up s d w h)
+written-is : (s : Capture) (ws : List Write) → malformed (device s fresh-output) ≡ false
+    → written (device s fresh-output) ws ≡ device (noted-writes s ws) fresh-output
+unfolding written noted-writes
+written-is s [] formed = refl
+written-is s (w ∷ ws) formed =
+    let one = write-is s w formed in
+    rw one (written-is (noted-write s w) ws (rw one at (write-keeps _ (w .offset) (w .value) (w .fits) formed)))
 
-fresh-unused : Unused fresh
+pub after-writes : (ws : List Write) → written fresh ws ≡ device (noted-writes (fresh .core .capture) ws) fresh-output
 unfolding fresh
-fresh-unused = record { fifo = refl; place = refl; samples = refl; completed = refl; landed = refl; discarded = refl }
+after-writes ws = written-is fresh-capture ws fresh-well-formed
 
-pub after-writes : (ws : List Write) → SetUp (noted-writes (fresh .capture) ws) (written fresh ws)
-after-writes ws = writes-set-up _ fresh ws (record { formed = fresh-well-formed; capture = refl; unused = fresh-unused })
+-- RIS stays 0: of the writes ICR alone changes it, and it only clears.
+abbrev No-flag : Capture → Type 0
+No-flag s = s .registers .ris ≡ 0
+
+control-flag : (v : ℕ) (s : Capture) → No-flag s → No-flag (write-control v s)
+unfolding write-control with-registers with-cr switch-capture switch-enable enabling disabling close-frame with-syncs with-frame with-rate with-partial
+control-flag v s h =
+    let same = either No-flag (enable (s .registers .cr)) (either No-flag (enable v) h h) (either No-flag (enable v) h h) in
+    either No-flag (capture-rises v s) same same
+
+found-flag : (r : Found) (v : ℕ) (s : Capture) → No-flag s → No-flag (write-found r v s)
+unfolding write-found write-register with-registers with-ier clear-flags with-ris with-cwstrt with-cwsize
+found-flag Nothing v s h = h
+found-flag (At Control) v s h = control-flag v s h
+found-flag (At Status) v s h = h
+found-flag (At RawStatus) v s h = h
+found-flag (At InterruptEnable) v s h = h
+found-flag (At MaskedStatus) v s h = h
+found-flag (At InterruptClear) v s h = omega arith
+found-flag (At WindowStart) v s h = h
+found-flag (At WindowSize) v s h = h
+
+writes-flag : (s : Capture) (ws : List Write) → No-flag s → No-flag (noted-writes s ws)
+unfolding noted-writes noted-write
+writes-flag s [] h = h
+writes-flag s (w ∷ ws) h =
+    let r = register-at (w .offset) in
+    writes-flag (noted-write s w) ws
+    (either No-flag (eqb (first (register-tests (s .registers .cr) r (w .value))) 0) (found-flag r (w .value) s h) h)
+
+pub no-flag : (ws : List Write) → noted-writes (fresh .core .capture) ws .registers .ris ≡ 0
+unfolding fresh fresh-capture
+no-flag ws = writes-flag (fresh .core .capture) ws refl

@@ -1,5 +1,4 @@
--- The premise is needed: with windows one sample longer, or with one grant fewer in each, a frame overruns, though there is room.
--- The idea: some grants in a row and then long none, over words as close as they come, run over the rules by computation. Assumes nothing.
+-- The premise is needed: with windows one sample longer, or with one grant fewer in each, a frame overruns, though there is room. By computation over the rules.
 use mathlib.Core.Bool.{Bool, true, false, cond}
 use mathlib.Core.List.{List, [], _∷_, _++_, map}
 use mathlib.Core.Path.{_≡_, refl, ap}
@@ -36,8 +35,8 @@ pub record Overruns (w g s k : ℕ) (x : Scenario) : Type 0 where
   -- k words are noted, s samples apart.
   pub words : map (λ n. n .sample) (noted-by x (length (trace x))) ≡ every s (s + 2) k
   -- At the end OVR is up, and words are lost.
-  pub overrun : bit 1 (final (x .start) (set-up x) (x .calls) .device .capture .registers .ris) ≡ true
-  pub discarded : final (x .start) (set-up x) (x .calls) .device .counts .discarded ≡ 5
+  pub overrun : bit 1 (final (x .start) (set-up x) (x .calls) .device .core .capture .registers .ris) ≡ true
+  pub discarded : final (x .start) (set-up x) (x .calls) .device .core .output .counts .discarded ≡ 5
 
 -- The outcome of a run of n samples with k words: l of them land, and the last is lost and takes the four held ones with it.
 abbrev last-lost : ℕ → ℕ → ℕ → ℕ → Outcome

@@ -1,74 +1,90 @@
--- Demand 3 (`delivery`): under the premises, what is promised holds at every moment of the calls.
--- The idea: the calls are one list of samples, over which the device is the capture rules beside the queue. Assumes nothing.
-use mathlib.Core.Bool.{false}
+-- Demand 3 (`delivery`). The idea: the calls are one list of samples, over which the device is the capture rules beside the output rules, and these land every word.
+use mathlib.Core.Bool.{Bool, true, false, true≢false}
 use mathlib.Core.List.{List, [], _∷_, _++_}
-use mathlib.Core.Path.{_≡_, refl, _∙_, subst}
-use Prim.Native.Nat.{ℕ, _+_, _*_, _≤_}
+use mathlib.Core.Option.{Option, none, some}
+use mathlib.Core.Path.{_≡_, refl, sym, ap, _∙_}
+use Prim.Native.Nat.{ℕ, _+_, _*_, _≤_, _<_}
 use native.Mathlib.Omega.{arith}
-use lib.Dec.{eqb}
-use lib.ListN.{length, take, drop, length-append, length-drop}
-use lib.Seq.{append-snoc, take-length, take-at}
+use lib.ListN.{length, take, drop, length-append, length-drop, take-append-drop}
+use lib.Seq.{take-length, take-at}
 use Rattle.bits.specs.Bits.{bit}
-use Rattle.registers.specs.Control.{edm}
+use Rattle.output.specs.Output.{depth}
 use Rattle.queue.specs.Queue as queue
-use Rattle.queue.specs.Queue.{Granted, Spaced}
+use Rattle.landing.specs.Landing.{Out, puts, Fits, Conditions, Landed}
+use Rattle.landing.proofs.Theorem.{empty, fits, landed}
 use Rattle.rules.specs.declared.Capture.{Capture}
-use Rattle.rules.specs.declared.Device.{Device}
-use Rattle.rules.specs.State.{fresh, depth}
-use Rattle.rules.specs.Queue.{Packed}
-use Rattle.rules.proofs.Booleans.{either}
+use Rattle.rules.specs.Capture.{enabled, remember-pins, capture-sample}
+use Rattle.rules.specs.State.{device, with-pins}
+use Rattle.rules.specs.Run.{Packed, Ran}
+use Rattle.laws.proofs.Moved.{sample-moved, sample-enable, word-enabled}
 use Rattle.delivery.specs.Calls.{Moment, moments}
-use Rattle.delivery.specs.Noted.{noted, noted-at, spacing}
-use Rattle.delivery.specs.Delivery.{grants, Scenario, set-up, trace, configured, distance, Premises, Promised, All, Delivery}
-use Rattle.delivery.proofs.Inputs.{inputs, inputs-take, inputs-length, inputs-grants}
-use Rattle.delivery.proofs.Spacing.{later, always-spaced}
-use Rattle.delivery.proofs.Overrun.{captures-ovr, writes-ovr}
-use Rattle.delivery.proofs.Refinement.{Refines, started, refines-from}
-use Rattle.delivery.proofs.Promises.{count-words, held-rest, counted, landed-and-held, words-stored, landed-in-time, says-noted}
-use Rattle.delivery.proofs.SetUp.{after-writes}
+use Rattle.delivery.specs.Noted.{Noted, noted, words, noted-at}
+use Rattle.delivery.specs.Delivery.{Scenario, set-up, trace, configured, distance, Premises, Promised, All, Delivery}
+use Rattle.delivery.proofs.Inputs.{input, inputs, captures, inputs-append, inputs-take, inputs-length, window-grants, inputs-words, count-words}
+use Rattle.delivery.proofs.Spacing.{always-spaced, spacing-positive}
+use Rattle.delivery.proofs.Following.{steps-fit, last-answer}
+use Rattle.delivery.proofs.SetUp.{after-writes, no-flag}
+use Rattle.delivery.proofs.NotedNumbers.{numbered, last-noted}
 use Rattle.delivery.proofs.OneCall.{ran}
 use Rattle.delivery.proofs.Prefixes.{Answered, Reached, all-reached}
 
--- The grants of a window, and a spacing of at least one sample, as the queue's theorem asks.
-window-grants : (s : Capture) (n k : ℕ) (xs : List ℕ) → queue.grants (take n (drop k (inputs s xs))) ≡ grants (take n (drop k xs))
-window-grants s n k xs = rw (later, ← inputs-take, inputs-grants)
+-- The capture rules never raise OVR, and note no word while ENABLE is 0.
+captures-overrun : (s : Capture) (xs : List ℕ) → bit 1 (s .registers .ris) ≡ false → bit 1 (captures s xs .registers .ris) ≡ false
+unfolding captures remember-pins with-pins
+captures-overrun s [] off = off
+captures-overrun s (w ∷ ws) off = captures-overrun (capture-sample s w .state) ws (sample-moved s w .overrun ∙ off)
 
-spacing-positive : (cr : ℕ) → 1 ≤ spacing cr
-unfolding spacing
-spacing-positive cr = either (λ n. 1 ≤ n) (eqb (edm cr) 0) (omega arith) (omega arith)
+none-disabled : (s : Capture) (xs : List ℕ) → enabled s ≡ false → queue.words (inputs s xs) ≡ []
+unfolding inputs queue.words
+none-disabled s [] off = refl
+none-disabled s (w ∷ ws) off = go (capture-sample s w .word) (word-enabled s w) (none-disabled (capture-sample s w .state) ws (sample-enable s w ∙ off))
+  where
+    rest : List (queue.Input ℕ)
+    rest = inputs (capture-sample s w .state) ws
 
--- Device and frame buffer are beside the queue after samples xs of the scenario.
-abbrev Follows : Scenario → List ℕ → Device → List ℕ → Type 0
-Follows x xs d b = Refines (configured x) (drop (x .start) (x .memory)) xs d b
+    go : (o : Option ℕ) → ((v : ℕ) → o ≡ some v → enabled s ≡ true) → queue.words rest ≡ [] → queue.words (record { grant = input s w .grant; word = o } ∷ rest) ≡ []
+    go none on e = e
+    go (some v) on e = let z : _≡_ {A = Bool} true false = sym (on v refl) ∙ off in absurd (true≢false z)
+
+-- The frame buffer first lent; output and frame buffer after samples xs.
+abbrev lent : Scenario → List ℕ
+lent x = drop (x .start) (x .memory)
+
+abbrev out : Scenario → List ℕ → Out
+out x xs = puts (enabled (configured x)) (empty (lent x)) (inputs (configured x) xs)
 
 module _ (x : Scenario) (p : Premises x) where
-  -- The premises, as the queue has them: enough grants, words far enough apart, and room.
-  granted : Granted depth (distance x) (inputs (configured x) (trace x))
-  granted k h = rw window-grants (p .granted k (rw inputs-length at h))
+  -- The premises, as the output rules have them.
+  conditions : Conditions (enabled (configured x)) (distance x) (lent x) (inputs (configured x) (trace x))
+  conditions =
+      record {
+        positive = spacing-positive _;
+        granted = λ k h. rw window-grants (p .granted k (rw inputs-length at h));
+        spaced = always-spaced (configured x) (trace x);
+        room = rw (count-words, length-drop) (rw take-length at (p .room));
+        enabled = none-disabled (configured x) (trace x);
+      }
 
-  spaced : Spaced (distance x) (inputs (configured x) (trace x))
-  spaced = always-spaced (configured x) (trace x)
+  -- After the first samples, xs, with zs still to come.
+  module _ (xs zs : List ℕ) (e : trace x ≡ xs ++ zs) where
+    split : Conditions (enabled (configured x)) (distance x) (lent x) (inputs (configured x) xs ++ inputs (captures (configured x) xs) zs)
+    split = rw (← inputs-append, ← e) conditions
 
-  room : 4 * length (queue.words (inputs (configured x) (trace x))) ≤ length (drop (x .start) (x .memory))
-  room = rw (count-words, length-drop) (rw take-length at (p .room))
+    fit : Fits (enabled (configured x)) (empty (lent x)) (inputs (configured x) xs)
+    fit = fits (inputs (configured x) xs) (inputs (captures (configured x) xs) zs) split
 
-  -- After the writes: beside the empty queue, with OVR down.
-  begun : Follows x [] (set-up x .device) (drop (x .start) (x .memory))
-  begun =
-      let d = set-up x .device in
-      let b = drop (x .start) (x .memory) in
-      let w = after-writes (x .writes) in
-      let u = w .unused in
-      subst (λ s. Refines s b [] d b) (w .capture) (started d b (u .fifo) (u .place) (u .landed) (u .discarded) (u .completed) (w .formed))
+    follows : ran (x .start) (set-up x) xs ≡ record { device = device (captures (configured x) xs) (out x xs .state); buffer = out x xs .buffer }
+    follows = rw after-writes (steps-fit (configured x) (empty (lent x)) xs refl fit)
 
-  flag-down : bit 1 (configured x .registers .ris) ≡ false
-  unfolding fresh
-  flag-down = rw (writes-ovr (fresh .capture) (x .writes) refl)
+    lands : Landed (distance x) (x .start) (x .memory) (inputs (configured x) xs) (out x xs)
+    lands = landed (inputs (configured x) xs) (inputs (captures (configured x) xs) zs) split (x .start) (x .memory) refl
 
-  -- After the first samples, xs, with zs still to come: beside the queue.
-  follows : (xs zs : List ℕ) → trace x ≡ xs ++ zs
-      → let r = ran (x .start) (set-up x) xs in Follows x xs (r .device) (r .buffer)
-  follows xs zs e = refines-from (distance x) xs zs begun (spacing-positive _) (rw e at granted) (rw e at spaced) (rw e at room)
+    in-time : (before : List Noted) (w : Noted) (after : List Noted) → noted 0 (configured x) xs ≡ before ++ w ∷ after
+        → w .sample + depth * distance x ≤ length xs → length before < out x xs .state .output .counts .landed
+    in-time before w after is h =
+        let came = numbered 0 (configured x) xs before w after is .1 (w .sample) (omega arith) in
+        let gone = lands .in-time (w .sample) (rw inputs-length h) in
+        omega (arith, rw (← inputs-take (configured x) (w .sample), count-words) at gone)
 
   -- What is answered after them: the word noted at the last.
   answered : (xs zs : List ℕ) (q : Packed) → trace x ≡ xs ++ zs → Answered (x .start) (set-up x) xs q
@@ -76,28 +92,28 @@ module _ (x : Scenario) (p : Premises x) where
   answered xs zs q e a =
       let ys = a .before in
       let w = a .last in
-      let e′ : trace x ≡ ys ++ w ∷ zs = e ∙ rw (a .split) (append-snoc ys w zs) in
       let number : length (ys ++ w ∷ []) ≡ 0 + length ys + 1 = rw length-append (omega arith) in
-      rw (a .split, number)
-      (a .packed ∙
-      says-noted (distance x) w zs (follows ys (w ∷ zs) e′) (spacing-positive _) (rw e′ at granted) (rw e′ at spaced) (rw e′ at room))
+      let says = last-answer (configured x) (empty (lent x)) ys w refl (fit (ys ++ w ∷ []) zs (e ∙ rw (a .split))) in
+      rw (a .split, number, last-noted) (a .packed ∙ rw after-writes says)
 
-  -- A moment after them: every promise is read off the queue.
+  -- A moment after them.
   promised : (m : Moment) → Reached (x .start) (set-up x) (trace x) m → Promised x m
   promised m r =
       let xs = r .so-far in
       let e = r .whole in
       let at : take (m .count) (trace x) ≡ xs = rw (e, r .count) (take-at xs (r .rest) (length xs) refl) in
-      let now : Follows x xs (m .device) (ran (x .start) (set-up x) xs .buffer) = rw (r .device) (follows xs (r .rest) e) in
-      let on-time = landed-in-time now (distance x) (r .rest) (spacing-positive _) (rw e at granted) (rw e at spaced) in
+      let now = follows xs (r .rest) e in
+      let here : m .device ≡ _ = r .at .device ∙ ap (λ (y : Ran). y .device) now in
+      let bytes = rw (r .at .front, r .at .buffer) at (take-append-drop (x .start) (m .memory)) in
+      let l = lands xs (r .rest) e in
       record {
-        no-overrun = rw (now .capture) (captures-ovr (configured x) xs flag-down);
-        none-discarded = now .discarded;
-        completed = rw at (counted now);
-        in-memory = rw (at, r .memory) (words-stored now (x .start) (x .memory) refl);
-        held = rw at (held-rest now);
-        split = rw at (landed-and-held now);
-        in-time = rw (at, r .count) on-time;
+        no-overrun = rw here (captures-overrun (configured x) xs (rw (no-flag (x .writes))));
+        none-discarded = rw here (l .none-discarded);
+        completed = rw (at, here) (l .completed ∙ count-words _ xs);
+        in-memory = rw (at, here, ← bytes, now, ← inputs-words 0 (configured x) xs) (l .in-memory);
+        held = rw (at, here, ← inputs-words 0 (configured x) xs) (l .held);
+        split = rw (at, here) (l .split ∙ count-words _ xs);
+        in-time = rw (at, here, r .count) (in-time xs (r .rest) e);
         answers = λ q o. rw (at, r .count) (answered xs (r .rest) q e (r .answers q o));
       }
 

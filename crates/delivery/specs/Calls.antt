@@ -8,9 +8,8 @@ use lib.Dec.{eqb}
 use lib.ListN.{length, take, drop}
 use Rattle.rules.specs.declared.Device.{Device}
 use Rattle.refusals.specs.Refusals.{Answer, refused, answered}
-use Rattle.rules.specs.Queue.{Packed}
 use Rattle.rules.specs.RegisterCalls.{write}
-use Rattle.rules.specs.Run.{step, run-refusal, run, SampleAnswer, sample}
+use Rattle.rules.specs.Run.{Packed, step, run-refusal, run, SampleAnswer, sample}
 
 -- A register write. Its value is a 32-bit number.
 pub record Write : Type 0 where

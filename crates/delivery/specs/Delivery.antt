@@ -7,25 +7,13 @@ use Prim.Native.Nat.{ℕ, _+_, _-_, _*_, _≤_, _<_}
 use lib.ListN.{length, take, drop}
 use Rattle.bits.specs.Bits.{bit}
 use Rattle.rules.specs.declared.Capture.{Capture}
-use Rattle.rules.specs.declared.Fifo.{Fifo}
-use Rattle.rules.specs.State.{fresh, depth}
+use Rattle.rules.specs.State.{output-of, fresh}
+use Rattle.rules.specs.Run.{Packed}
 use Rattle.samples.specs.Samples.{bus-grant}
-use Rattle.rules.specs.Queue.{bytes, Packed}
+use Rattle.output.specs.Output.{depth, contents}
+use Rattle.landing.specs.Memory.{with-words}
 use Rattle.delivery.specs.Calls.{Write, written, Call, System, samples, Moment, moments}
 use Rattle.delivery.specs.Noted.{Noted, noted-writes, noted, words, noted-at, spacing}
-
--- The held words, oldest first.
-unfoldable pub contents : Fifo → List ℕ
-contents f = take (f .held) (f .slots)
-
--- The bytes of some words, each little-endian.
-unfoldable pub all-bytes : List ℕ → List ℕ
-all-bytes [] = []
-all-bytes (v ∷ vs) = bytes v ++ all-bytes vs
-
--- A memory with words 0, 1 and so on at their bytes from a start byte on, and every other byte as it was.
-unfoldable pub with-words : ℕ → List ℕ → List ℕ → List ℕ
-with-words start vs memory = take start memory ++ all-bytes vs ++ drop (start + 4 * length vs) memory
 
 -- How many of some samples grant the bus.
 unfoldable pub grants : List ℕ → ℕ
@@ -49,7 +37,7 @@ trace x = samples (x .start) (set-up x) (x .calls)
 
 -- The capture state after the writes, by the register rules alone; the spacing that its EDM gives; and the words noted at the first n samples.
 abbrev pub configured : Scenario → Capture
-configured x = noted-writes (fresh .capture) (x .writes)
+configured x = noted-writes (fresh .core .capture) (x .writes)
 
 abbrev pub distance : Scenario → ℕ
 distance x = spacing (configured x .registers .cr)
@@ -67,19 +55,19 @@ pub record Premises (x : Scenario) : Type 0 where
 -- What is promised at a moment after n samples.
 pub record Promised (x : Scenario) (m : Moment) : Type 0 where
   -- Overrun has never risen, and no word is lost.
-  pub no-overrun : bit 1 (m .device .capture .registers .ris) ≡ false
-  pub none-discarded : m .device .counts .discarded ≡ 0
+  pub no-overrun : bit 1 (m .device .core .capture .registers .ris) ≡ false
+  pub none-discarded : m .device .core .output .counts .discarded ≡ 0
   -- Completed is how many words are noted.
-  pub completed : m .device .counts .completed ≡ length (noted-by x (m .count))
+  pub completed : m .device .core .output .counts .completed ≡ length (noted-by x (m .count))
   -- The first of them, as many as landed counts, stand at their bytes, and every other byte is as first lent.
-  pub in-memory : m .memory ≡ with-words (x .start) (take (m .device .counts .landed) (words (noted-by x (m .count)))) (x .memory)
+  pub in-memory : m .memory ≡ with-words (x .start) (take (m .device .core .output .counts .landed) (words (noted-by x (m .count)))) (x .memory)
   -- The rest are held, in order.
-  pub held : contents (m .device .fifo) ≡ drop (m .device .counts .landed) (words (noted-by x (m .count)))
-  pub split : m .device .counts .landed + m .device .fifo .held ≡ length (noted-by x (m .count))
+  pub held : contents (output-of (m .device)) ≡ drop (m .device .core .output .counts .landed) (words (noted-by x (m .count)))
+  pub split : m .device .core .output .counts .landed + m .device .core .output .held ≡ length (noted-by x (m .count))
   -- A word noted at sample t has landed if the samples have reached t + 4·s.
   pub in-time :
       (before : List Noted) (w : Noted) (after : List Noted) → noted-by x (m .count) ≡ before ++ w ∷ after →
-      w .sample + depth * distance x ≤ m .count → length before < m .device .counts .landed
+      w .sample + depth * distance x ≤ m .count → length before < m .device .core .output .counts .landed
   -- An accepted single sample says the word noted at it, or none, and never a lost one.
   pub answers : (p : Packed) → m .packed ≡ some p → p ≡ noted-at (m .count) (noted-by x (m .count))
 

@@ -12,7 +12,7 @@ use Rattle.registers.specs.declared.Found.the-variants.{At, Nothing}
 use Rattle.rules.specs.declared.Capture.{Capture}
 use Rattle.refusals.specs.Refusals.{first}
 use Rattle.rules.specs.Capture.{capture-sample}
-use Rattle.rules.specs.Queue.{Packed, nothing, completed}
+use Rattle.rules.specs.Run.{Packed, nothing, completed}
 use Rattle.rules.specs.RegisterCalls.{register-tests, write-register}
 use Rattle.delivery.specs.Calls.{Write}
 

@@ -4,15 +4,16 @@ ghost use Prim.Native.Nat.{_+_, _<_, _^_};
 ghost use Rattle.registers.specs.declared.Found.the-variants.{At};
 ghost use Rattle.rules.specs.RegisterCalls as calls;
 use crate::well_formed::is_open;
+use output::discard;
 use registers::Register;
 use registers::control;
 use rules::Capture;
+use rules::Core;
 use rules::Device;
 use rules::Frame;
 use rules::Partial;
 use rules::Registers;
 use rules::Syncs;
-use sampling::fifo::discard;
 
 // ENABLE 0 to 1.
 fn enabling(s: Capture) -> Capture
@@ -143,17 +144,22 @@ fn disables(cr: u32, register: Register, v: u32) -> bool
 
 // An accepted write, of the device.
 pub fn write_at(d: Device, register: Register, v: u32) -> Device
-    requires { ⌜ d .counts .discarded + d .fifo .held < 2 ^ 32 ⌝ }
+    requires { ⌜ d .core .output .counts .discarded + d .core .output .held < 2 ^ 32 ⌝ }
     ensures { λ r. ⌜ r ≡ calls.write-at d (At register) v ⌝ }
 {
-    let s = d.capture;
-    let written = write_register(register, v, s);
-    if disables(d.capture.registers.cr, register, v) {
-        let mut e = discard(0, d);
-        e.capture = written;
-        return e;
+    let s = d.core.capture;
+    let capture = write_register(register, v, s);
+    let mut slots = d.slots;
+    if disables(s.registers.cr, register, v) {
+        let output = discard(0, d.core.output, &mut slots);
+        return Device {
+            core: Core { capture, output },
+            slots,
+        };
     }
-    let mut e = d;
-    e.capture = written;
-    e
+    let output = d.core.output;
+    Device {
+        core: Core { capture, output },
+        slots,
+    }
 }

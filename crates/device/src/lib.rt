@@ -9,6 +9,9 @@ mod register_calls;
 mod runs;
 mod well_formed;
 
+use output::Counts;
+use output::Output;
+use output::SLOTS;
 use refusals::Outcome;
 use refusals::Refusal;
 pub use register_calls::interrupt;
@@ -16,9 +19,8 @@ pub use register_calls::read;
 pub use register_calls::rearm;
 pub use register_calls::write;
 use rules::Capture;
-use rules::Counts;
+use rules::Core;
 use rules::Device;
-use rules::Fifo;
 use rules::Frame;
 use rules::Partial;
 use rules::Pins;
@@ -86,12 +88,8 @@ pub fn fresh() -> Device
         rate: 0,
         partial: Partial { count: 0, bits: 0 },
     };
-    Device {
-        capture,
-        fifo: Fifo {
-            slots: [0; 4],
-            held: 0,
-        },
+    let output = Output {
+        held: 0,
         place: 0,
         counts: Counts {
             samples: 0,
@@ -99,5 +97,9 @@ pub fn fresh() -> Device
             landed: 0,
             discarded: 0,
         },
+    };
+    Device {
+        core: Core { capture, output },
+        slots: [0; SLOTS],
     }
 }

@@ -30,10 +30,10 @@ fn when(t: bool, n: u32) -> u32
 fn status(d: Device) -> u32
     ensures { λ r. ⌜ r ≡ calls.status d ⌝ }
 {
-    let cr = d.capture.registers.cr;
-    let hsync = when(blanks(d.capture.pins.hsync, control::hspol(cr)), 1);
-    let vsync = when(blanks(d.capture.pins.vsync, control::vspol(cr)), 2);
-    let fne = when(0 < d.fifo.held, 4);
+    let cr = d.core.capture.registers.cr;
+    let hsync = when(blanks(d.core.capture.pins.hsync, control::hspol(cr)), 1);
+    let vsync = when(blanks(d.core.capture.pins.vsync, control::vspol(cr)), 2);
+    let fne = when(0 < d.core.output.held, 4);
     hsync + vsync + fne
 }
 
@@ -42,14 +42,14 @@ fn value(d: Device, register: Register) -> u32
     ensures { λ r. ⌜ r ≡ calls.value d register ⌝ }
 {
     match register {
-        Register::Control => d.capture.registers.cr,
+        Register::Control => d.core.capture.registers.cr,
         Register::Status => status(d),
-        Register::RawStatus => d.capture.registers.ris,
-        Register::InterruptEnable => d.capture.registers.ier,
-        Register::MaskedStatus => d.capture.registers.ris & d.capture.registers.ier,
+        Register::RawStatus => d.core.capture.registers.ris,
+        Register::InterruptEnable => d.core.capture.registers.ier,
+        Register::MaskedStatus => d.core.capture.registers.ris & d.core.capture.registers.ier,
         Register::InterruptClear => 0,
-        Register::WindowStart => d.capture.registers.cwstrt,
-        Register::WindowSize => d.capture.registers.cwsize,
+        Register::WindowStart => d.core.capture.registers.cwstrt,
+        Register::WindowSize => d.core.capture.registers.cwsize,
     }
 }
 
@@ -155,7 +155,7 @@ pub fn write(d: Device, offset: u32, value: u32) -> Changed
             outcome: Outcome::Refused(Refusal::Unsupported),
         };
     }
-    if fixed_at(d.capture.registers.cr, register, value) {
+    if fixed_at(d.core.capture.registers.cr, register, value) {
         return Changed {
             device: d,
             outcome: Outcome::Refused(Refusal::Enabled),
@@ -175,7 +175,7 @@ pub fn interrupt(d: Device) -> InterruptLine
     if malformed(d) {
         return InterruptLine::Refused(Refusal::Malformed);
     }
-    if d.capture.registers.ris & d.capture.registers.ier != 0 {
+    if d.core.capture.registers.ris & d.core.capture.registers.ier != 0 {
         return InterruptLine::Up;
     }
     InterruptLine::Down
@@ -192,7 +192,7 @@ pub fn rearm(d: Device) -> Changed
         };
     }
     let mut after = d;
-    after.place = 0;
+    after.core.output.place = 0;
     Changed {
         device: after,
         outcome: Outcome::Accepted,

@@ -18,7 +18,6 @@ use rules::Device;
 use samples::any_bad;
 use sampling::Landing;
 use sampling::answers;
-use sampling::steps;
 
 // Whether the samples in all would pass 4,294,967,295.
 fn too_many(before: u32, samples: &[u32]) -> bool
@@ -40,7 +39,7 @@ fn run_refusal(d: Device, memory: &[u8], start: usize, samples: &[u32]) -> Outco
     if any_bad(samples) {
         return Outcome::Refused(Refusal::SampleBits);
     }
-    if too_many(d.counts.samples, samples) {
+    if too_many(d.core.output.counts.samples, samples) {
         return Outcome::Refused(Refusal::SampleTotal);
     }
     Outcome::Accepted
@@ -57,7 +56,7 @@ pub fn run(d: Device, memory: &mut [u8], start: usize, samples: &[u32]) -> Chang
             outcome: Outcome::Refused(refusal),
         },
         Outcome::Accepted => {
-            let device = steps(d, &mut memory[start..], samples);
+            let device = sampling::run(d, &mut memory[start..], samples);
             Changed {
                 device,
                 outcome: Outcome::Accepted,
@@ -89,7 +88,7 @@ pub fn sample(d: Device, memory: &mut [u8], start: usize, w: u32) -> Sampled
             reply: Reply::Refused(refusal),
         },
         Outcome::Accepted => {
-            let device = steps(d, &mut memory[start..], &one);
+            let device = sampling::run(d, &mut memory[start..], &one);
             let landing = in_memory(start, answers::landing(d, device));
             let packing = answers::packing(d, device);
             Sampled {

@@ -4,25 +4,30 @@ ghost use mathlib.Core.Bool.{not};
 ghost use Prim.Native.Nat.{_+_, _*_, _/_, _^_};
 ghost use lib.Dec.{eqb};
 ghost use lib.ListN.{drop};
-ghost use Rattle.rules.specs.Capture as rules;
+ghost use Rattle.registers.specs.Control.{edm};
+ghost use Rattle.packing.specs.Packing as packing;
+ghost use Rattle.output.specs.WellFormed as output;
+ghost use Rattle.rules.specs.State as state;
 ghost use Rattle.rules.specs.WellFormed as wf;
 use capture::frame::rate_period;
-use capture::packing::per_word;
-use capture::packing::width;
+use output::DEPTH;
+use output::Output;
+use output::SLOTS;
+use packing::per_word;
+use packing::width;
 use registers::Register;
 use registers::control;
 use rules::Capture;
 use rules::Device;
-use rules::Fifo;
 use rules::Frame;
 use rules::Registers;
 
 // Whether the slots from one on are all 0.
-fn all_zero(slots: [u32; 4], from: usize) -> bool
-    ensures { λ r. ⌜ r ≡ wf.all-zero (drop from slots) ⌝ }
+fn all_zero(slots: [u32; SLOTS], from: usize) -> bool
+    ensures { λ r. ⌜ r ≡ output.all-zero (drop from slots) ⌝ }
 {
     let mut i = from;
-    while i < 4 {
+    while i < SLOTS {
         if slots[i] != 0 {
             return false;
         }
@@ -31,22 +36,22 @@ fn all_zero(slots: [u32; 4], from: usize) -> bool
     true
 }
 
-fn bad_fifo(f: Fifo) -> bool
-    ensures { λ r. ⌜ r ≡ wf.bad-fifo f ⌝ }
+fn bad_fifo(d: Device) -> bool
+    ensures { λ r. ⌜ r ≡ output.bad-fifo (state.output-of d) ⌝ }
 {
-    let held = f.held;
-    if 4 < held {
+    let held = d.core.output.held;
+    if DEPTH < held {
         return true;
     }
-    let slots = f.slots;
+    let slots = d.slots;
     !all_zero(slots, held as usize)
 }
 
 // How many bits some data occupy.
 fn used(cr: u32, count: u32) -> u64
-    ensures { λ r. ⌜ r ≡ rules.width cr * count ⌝ }
+    ensures { λ r. ⌜ r ≡ packing.width (edm cr) * count ⌝ }
 {
-    width(cr) as u64 * count as u64
+    width(control::edm(cr)) as u64 * count as u64
 }
 
 // Whether bits stand above the used ones.
@@ -68,7 +73,7 @@ fn unused_bits(s: Capture) -> bool
 fn full_partial(s: Capture) -> bool
     ensures { λ r. ⌜ r ≡ wf.full-partial s ⌝ }
 {
-    per_word(s.registers.cr) <= s.partial.count
+    per_word(control::edm(s.registers.cr)) <= s.partial.count
 }
 
 fn excluded(r: Registers) -> bool
@@ -99,7 +104,7 @@ fn bad_flags(r: Registers) -> bool
 }
 
 pub fn is_open(f: Frame) -> bool
-    ensures { λ r. ⌜ r ≡ wf.is-open f ⌝ }
+    ensures { λ r. ⌜ r ≡ state.is-open f ⌝ }
 {
     match f {
         Frame::Closed => false,
@@ -108,7 +113,7 @@ pub fn is_open(f: Frame) -> bool
 }
 
 fn is_taken(f: Frame) -> bool
-    ensures { λ r. ⌜ r ≡ wf.is-taken f ⌝ }
+    ensures { λ r. ⌜ r ≡ state.is-taken f ⌝ }
 {
     match f {
         Frame::Closed => false,
@@ -137,21 +142,21 @@ fn pixels(f: Frame) -> u32
 fn active_disabled(d: Device) -> bool
     ensures { λ r. ⌜ r ≡ wf.active-disabled d ⌝ }
 {
-    let s = d.capture;
+    let s = d.core.capture;
     let frame = s.frame;
-    if control::enable(d.capture.registers.cr) {
+    if control::enable(s.registers.cr) {
         return false;
     }
     if is_open(frame) {
         return true;
     }
-    if 0 < d.fifo.held {
+    if 0 < d.core.output.held {
         return true;
     }
-    if 0 < d.capture.partial.count {
+    if 0 < s.partial.count {
         return true;
     }
-    0 < d.capture.rate
+    0 < s.rate
 }
 
 fn partial_outside(s: Capture) -> bool
@@ -173,21 +178,21 @@ fn bad_rate(s: Capture) -> bool
 fn above_samples(d: Device) -> bool
     ensures { λ r. ⌜ r ≡ wf.above-samples d ⌝ }
 {
-    let s = d.capture;
+    let s = d.core.capture;
     let frame = s.frame;
-    if d.counts.samples < lines(frame) {
+    if d.core.output.counts.samples < lines(frame) {
         return true;
     }
-    if d.counts.samples < pixels(frame) {
+    if d.core.output.counts.samples < pixels(frame) {
         return true;
     }
-    d.counts.samples < d.counts.completed
+    d.core.output.counts.samples < d.core.output.counts.completed
 }
 
-fn bad_place(d: Device) -> bool
-    ensures { λ r. ⌜ r ≡ wf.bad-place d ⌝ }
+fn bad_place(o: Output) -> bool
+    ensures { λ r. ⌜ r ≡ output.bad-place o ⌝ }
 {
-    d.counts.landed < d.place
+    o.counts.landed < o.place
 }
 
 fn sum(landed: u32, held: u32, discarded: u32) -> u64
@@ -196,20 +201,20 @@ fn sum(landed: u32, held: u32, discarded: u32) -> u64
     landed as u64 + held as u64 + discarded as u64
 }
 
-fn bad_counts(d: Device) -> bool
-    ensures { λ r. ⌜ r ≡ wf.bad-counts d ⌝ }
+fn bad_counts(o: Output) -> bool
+    ensures { λ r. ⌜ r ≡ output.bad-counts o ⌝ }
 {
-    d.counts.completed as u64 != sum(d.counts.landed, d.fifo.held, d.counts.discarded)
+    o.counts.completed as u64 != sum(o.counts.landed, o.held, o.counts.discarded)
 }
 
 // Whether the device is malformed.
 pub fn malformed(d: Device) -> bool
     ensures { λ r. ⌜ r ≡ wf.malformed d ⌝ }
 {
-    let f = d.fifo;
-    let s = d.capture;
-    let r = d.capture.registers;
-    if bad_fifo(f) {
+    let s = d.core.capture;
+    let r = s.registers;
+    let o = d.core.output;
+    if bad_fifo(d) {
         return true;
     }
     if unused_bits(s) {
@@ -236,8 +241,8 @@ pub fn malformed(d: Device) -> bool
     if above_samples(d) {
         return true;
     }
-    if bad_place(d) {
+    if bad_place(o) {
         return true;
     }
-    bad_counts(d)
+    bad_counts(o)
 }

@@ -1,18 +1,20 @@
--- A device and its image give each other back: `device-of` and `image-of` are inverse, on devices of four FIFO slots and on images that encode one.
--- The idea: a flag and its word, and a frame and its three words, give each other back. Assumes nothing.
+-- A device and its image give each other back: `device-of` and `image-of` are inverse, on devices with all their slots and on images that encode one. Assumes nothing.
 use mathlib.Core.Bool.{Bool, true, false, cond, not, _&&_, _||_}
-use mathlib.Core.List.{List, [], _∷_}
+use mathlib.Core.List.{List, [], _∷_, _++_, append-nil}
 use mathlib.Core.Path.{_≡_, refl, sym, ap, _∙_}
-use Prim.Native.Nat.{ℕ, zero, suc}
+use Prim.Native.Nat.{ℕ, zero, suc, _≤_}
 use native.Mathlib.Omega.{arith}
 use lib.Dec.{eqb, leb}
-use lib.ListN.{length, getD}
+use lib.ListN.{length, take, drop, getD, length-drop, take-append-drop}
+use lib.Seq.{take-all, take-length, drop-length, take-at, drop-at, take-add, paste}
+use native.Mathlib.Nat.{zero-add}
 use borrow.Author.Tests.{leb-true, eqb-true}
 use Rattle.rules.specs.declared.Frame.{Frame}
 use Rattle.rules.specs.declared.Frame.the-variants.{Closed, Open}
 use Rattle.rules.specs.declared.Device.{Device}
+use Rattle.output.specs.Output.{slot-count}
 use Rattle.bits.proofs.Booleans.{and-true}
-use Rattle.device_words.specs.Image.{flag, frame-word, lines-word, pixels-word, image-of, flags-encode, frame-encodes, encodes, frame-of, device-of}
+use Rattle.device_words.specs.Image.{flag, frame-word, lines-word, pixels-word, image-words, slot, behind, words-behind, image-of, flags-encode, frame-encodes, encodes, frame-of, device-of}
 
 -- A flag and its word.
 flag-back : (b : Bool) → eqb (flag b) 1 ≡ b
@@ -59,7 +61,7 @@ frame-words-back (suc (suc (suc n))) lines pixels e =
     let (small, rest) = and-true (leb (suc (suc (suc n))) 2) _ e in
     absurd (omega (arith, leb-true (suc (suc (suc n))) 2 small))
 
--- A list of known length is the list of its elements.
+-- The first elements of a list, one by one.
 elements : List ℕ → ℕ → ℕ → List ℕ
 elements l k zero = []
 elements l k (suc n) = getD l k 0 ∷ elements l (suc k) n
@@ -69,41 +71,48 @@ unfolding elements
 elements-later x l k zero = refl
 elements-later x l k (suc n) = ap (λ (r : List ℕ). getD l k 0 ∷ r) (elements-later x l (suc k) n)
 
-elements-all : (n : ℕ) (l : List ℕ) → length l ≡ n → elements l 0 n ≡ l
+elements-first : (n : ℕ) (l : List ℕ) → n ≤ length l → elements l 0 n ≡ take n l
 unfolding elements
-elements-all zero [] e = refl
-elements-all zero (x ∷ l) e = absurd (omega arith)
-elements-all (suc n) [] e = absurd (omega arith)
-elements-all (suc n) (x ∷ l) e = ap (λ (r : List ℕ). x ∷ r) (elements-later x l 0 n ∙ elements-all n l (omega arith))
+elements-first zero l le = refl
+elements-first (suc n) [] le = absurd (omega arith)
+elements-first (suc n) (x ∷ l) le = ap (λ (r : List ℕ). x ∷ r) (elements-later x l 0 n ∙ elements-first n l (omega arith))
 
--- Every device of four slots has an image that encodes it.
-pub device-back : (d : Device) → length (d .fifo .slots) ≡ 4 → device-of (image-of d) ≡ d
-unfolding device-of image-of elements
-device-back d four =
+-- A part put over a list as long is that part.
+pub put-whole : (l part : List ℕ) → length part ≡ length l → paste l 0 part (length part) ≡ part
+put-whole l part e = rw (take-length part, zero-add, e, drop-length l, append-nil)
+
+-- Every device with all its slots has an image that encodes it.
+pub device-back : (d : Device) → length (d .slots) ≡ slot-count → device-of (image-of d) ≡ d
+unfolding device-of image-of
+device-back d all =
+    let s = d .core .capture in
+    let b = words-behind (d .core .output) in
     rw (
-      flag-back (d .capture .pins .hsync),
-      flag-back (d .capture .pins .vsync),
-      flag-back (d .capture .pins .clock),
-      flag-back (d .capture .syncs .hsync),
-      flag-back (d .capture .syncs .vsync),
-      frame-back (d .capture .frame),
-      elements-all 4 (d .fifo .slots) four,
+      flag-back (s .pins .hsync),
+      flag-back (s .pins .vsync),
+      flag-back (s .pins .clock),
+      flag-back (s .syncs .hsync),
+      flag-back (s .syncs .vsync),
+      frame-back (s .frame),
+      take-at (d .slots) b slot-count all,
+      drop-at (d .slots) b slot-count all,
     )
 
 pub image-encodes : (d : Device) → encodes (image-of d) ≡ true
 unfolding encodes flags-encode image-of
 image-encodes d =
+    let s = d .core .capture in
     rw (
-      flag-fits (d .capture .pins .hsync),
-      flag-fits (d .capture .pins .vsync),
-      flag-fits (d .capture .pins .clock),
-      flag-fits (d .capture .syncs .hsync),
-      flag-fits (d .capture .syncs .vsync),
+      flag-fits (s .pins .hsync),
+      flag-fits (s .pins .vsync),
+      flag-fits (s .pins .clock),
+      flag-fits (s .syncs .hsync),
+      flag-fits (s .syncs .vsync),
     )
-    (frame-fits (d .capture .frame))
+    (frame-fits (s .frame))
 
 -- Every image that encodes a device is the image of that device: no two images encode one device.
-pub image-back : (w : List ℕ) → length w ≡ 26 → encodes w ≡ true → image-of (device-of w) ≡ w
+pub image-back : (w : List ℕ) → length w ≡ image-words → encodes w ≡ true → image-of (device-of w) ≡ w
 unfolding encodes flags-encode image-of device-of elements
 image-back w all e =
     let (flags, frame) = and-true (flags-encode (getD w 5 0) (getD w 6 0) (getD w 7 0) (getD w 8 0) (getD w 9 0)) (frame-encodes (getD w 10 0) (getD w 11 0) (getD w 12 0)) e in
@@ -112,4 +121,10 @@ image-back w all e =
     let (c, r″) = and-true (leb (getD w 7 0) 1) _ r′ in
     let (f, g) = and-true (leb (getD w 8 0) 1) (leb (getD w 9 0) 1) r″ in
     let (x, y, z) = frame-words-back (getD w 10 0) (getD w 11 0) (getD w 12 0) frame in
-    rw (word-back _ a, word-back _ b, word-back _ c, word-back _ f, word-back _ g, x, y, z) (elements-all 26 w all)
+    let front : elements w 0 slot ≡ take slot w = elements-first slot w (omega arith) in
+    let size : length (drop behind w) ≡ 6 = length-drop behind w ∙ omega arith in
+    let back : elements (drop behind w) 0 6 ≡ drop behind w = elements-first 6 (drop behind w) (omega arith) ∙ take-all 6 _ (omega arith) in
+    rw (word-back _ a, word-back _ b, word-back _ c, word-back _ f, word-back _ g, x, y, z)
+    (ap (λ (l : List ℕ). l ++ take slot-count (drop slot w) ++ elements (drop behind w) 0 6) front ∙
+    ap (λ (l : List ℕ). take slot w ++ take slot-count (drop slot w) ++ l) back ∙
+    rw (← take-add {A = ℕ} slot slot-count w) (take-append-drop behind w))

@@ -1,12 +1,15 @@
 -- The image of a device: 26 words of 32 bits, as include/dcmi.h names them.
 use mathlib.Core.Bool.{Bool, cond, not, _&&_, _||_}
-use mathlib.Core.List.{List, [], _∷_}
-use Prim.Native.Nat.{ℕ}
+use mathlib.Core.List.{List, [], _∷_, _++_}
+use Prim.Native.Nat.{ℕ, _+_}
 use lib.Dec.{eqb, leb}
-use lib.ListN.{getD}
+use lib.ListN.{take, drop, getD}
 use Rattle.rules.specs.declared.Frame.{Frame}
 use Rattle.rules.specs.declared.Frame.the-variants.{Closed, Open}
+use Rattle.rules.specs.declared.Capture.{Capture}
 use Rattle.rules.specs.declared.Device.{Device}
+use Rattle.output.specs.declared.Output.{Output}
+use Rattle.output.specs.Output.{slot-count}
 
 -- A word that is 0 or 1 says no or yes.
 abbrev pub flag : Bool → ℕ
@@ -25,36 +28,43 @@ abbrev pub pixels-word : Frame → ℕ
 pixels-word Closed = 0
 pixels-word (Open taken s) = s .pixels
 
--- The words of a device.
-unfoldable pub image-of : Device → List ℕ
-image-of d =
-    d .capture .registers .cr ∷
-    d .capture .registers .ris ∷
-    d .capture .registers .ier ∷
-    d .capture .registers .cwstrt ∷
-    d .capture .registers .cwsize ∷
-    flag (d .capture .pins .hsync) ∷
-    flag (d .capture .pins .vsync) ∷
-    flag (d .capture .pins .clock) ∷
-    flag (d .capture .syncs .hsync) ∷
-    flag (d .capture .syncs .vsync) ∷
-    frame-word (d .capture .frame) ∷
-    lines-word (d .capture .frame) ∷
-    pixels-word (d .capture .frame) ∷
-    d .capture .rate ∷
-    d .capture .partial .count ∷
-    d .capture .partial .bits ∷
-    getD (d .fifo .slots) 0 0 ∷
-    getD (d .fifo .slots) 1 0 ∷
-    getD (d .fifo .slots) 2 0 ∷
-    getD (d .fifo .slots) 3 0 ∷
-    d .fifo .held ∷
-    d .place ∷
-    d .counts .samples ∷
-    d .counts .completed ∷
-    d .counts .landed ∷
-    d .counts .discarded ∷
+-- How many words there are; the index of the first slot, and that of the first word behind the slots.
+abbrev pub image-words : ℕ
+image-words = 22 + slot-count
+
+abbrev pub slot : ℕ
+slot = 16
+
+abbrev pub behind : ℕ
+behind = slot + slot-count
+
+-- The words of a device: those before the slots, the slots, and those behind them.
+abbrev pub words-before : Capture → List ℕ
+words-before s =
+    s .registers .cr ∷
+    s .registers .ris ∷
+    s .registers .ier ∷
+    s .registers .cwstrt ∷
+    s .registers .cwsize ∷
+    flag (s .pins .hsync) ∷
+    flag (s .pins .vsync) ∷
+    flag (s .pins .clock) ∷
+    flag (s .syncs .hsync) ∷
+    flag (s .syncs .vsync) ∷
+    frame-word (s .frame) ∷
+    lines-word (s .frame) ∷
+    pixels-word (s .frame) ∷
+    s .rate ∷
+    s .partial .count ∷
+    s .partial .bits ∷
     []
+
+abbrev pub words-behind : Output → List ℕ
+words-behind o =
+    o .held ∷ o .place ∷ o .counts .samples ∷ o .counts .completed ∷ o .counts .landed ∷ o .counts .discarded ∷ []
+
+unfoldable pub image-of : Device → List ℕ
+image-of d = words-before (d .core .capture) ++ d .slots ++ words-behind (d .core .output)
 
 -- An image encodes a device: its flags are 0 or 1, the frame is at most 2, and a closed one has no lines and no pixels.
 unfoldable pub flags-encode : ℕ → ℕ → ℕ → ℕ → ℕ → Bool
@@ -70,19 +80,25 @@ encodes w = flags-encode (getD w 5 0) (getD w 6 0) (getD w 7 0) (getD w 8 0) (ge
 unfoldable pub frame-of : ℕ → ℕ → ℕ → Frame
 frame-of frame lines pixels = cond (eqb frame 0) Closed (Open (eqb frame 2) (record { lines = lines; pixels = pixels }))
 
+abbrev pub capture-of : List ℕ → Capture
+capture-of w =
+    record {
+      registers = record { cr = getD w 0 0; ris = getD w 1 0; ier = getD w 2 0; cwstrt = getD w 3 0; cwsize = getD w 4 0 };
+      pins = record { hsync = eqb (getD w 5 0) 1; vsync = eqb (getD w 6 0) 1; clock = eqb (getD w 7 0) 1 };
+      syncs = record { hsync = eqb (getD w 8 0) 1; vsync = eqb (getD w 9 0) 1 };
+      frame = frame-of (getD w 10 0) (getD w 11 0) (getD w 12 0);
+      rate = getD w 13 0;
+      partial = record { count = getD w 14 0; bits = getD w 15 0 };
+    }
+
+abbrev pub output-of : List ℕ → Output
+output-of w =
+    record {
+      held = getD w 0 0;
+      place = getD w 1 0;
+      counts = record { samples = getD w 2 0; completed = getD w 3 0; landed = getD w 4 0; discarded = getD w 5 0 };
+    }
+
 unfoldable pub device-of : List ℕ → Device
 device-of w =
-    record {
-      capture =
-          record {
-            registers = record { cr = getD w 0 0; ris = getD w 1 0; ier = getD w 2 0; cwstrt = getD w 3 0; cwsize = getD w 4 0 };
-            pins = record { hsync = eqb (getD w 5 0) 1; vsync = eqb (getD w 6 0) 1; clock = eqb (getD w 7 0) 1 };
-            syncs = record { hsync = eqb (getD w 8 0) 1; vsync = eqb (getD w 9 0) 1 };
-            frame = frame-of (getD w 10 0) (getD w 11 0) (getD w 12 0);
-            rate = getD w 13 0;
-            partial = record { count = getD w 14 0; bits = getD w 15 0 };
-          };
-      fifo = record { slots = getD w 16 0 ∷ getD w 17 0 ∷ getD w 18 0 ∷ getD w 19 0 ∷ []; held = getD w 20 0 };
-      place = getD w 21 0;
-      counts = record { samples = getD w 22 0; completed = getD w 23 0; landed = getD w 24 0; discarded = getD w 25 0 };
-    }
+    record { core = record { capture = capture-of w; output = output-of (drop behind w) }; slots = take slot-count (drop slot w) }

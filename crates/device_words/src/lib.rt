@@ -1,17 +1,29 @@
 // A device as an image of 26 words of 32 bits, for programs in other languages, and back. The layout is that of include/dcmi.h; each device has one
 // image, and an image that encodes no device is told from those that do.
 ghost use mathlib.Core.Path.{_≡_};
+ghost use Prim.Native.Nat.{_+_, _≤_};
+ghost use lib.ListN.{length, drop};
+ghost use lib.Seq.{paste};
 ghost use Rattle.device_words.specs.Image as image;
+use output::Counts;
+use output::Output;
+use output::SLOTS;
 use rules::Capture;
-use rules::Counts;
+use rules::Core;
 use rules::Device;
-use rules::Fifo;
 use rules::Frame;
 use rules::Partial;
 use rules::Pins;
 use rules::Registers;
 use rules::Scan;
 use rules::Syncs;
+
+// How many words there are; the index of the first slot, and that of the first word behind the slots.
+pub const WORDS: usize = 22 + SLOTS;
+
+const SLOT: usize = 16;
+
+const BEHIND: usize = 16 + SLOTS;
 
 fn flag(b: bool) -> u32
     ensures { λ r. ⌜ r ≡ image.flag b ⌝ }
@@ -54,19 +66,27 @@ fn pixels_word(f: Frame) -> u32
     }
 }
 
-// The words of a device.
-pub fn image_of(d: Device) -> [u32; 26]
-    ensures { λ r. ⌜ r ≡ image.image-of d ⌝ }
+// A part put into words, from an index on.
+fn put(words: &mut [u32], at: usize, part: &[u32])
+    requires { ⌜ at + length (now part) ≤ length (now words) ⌝ }
+    ensures { λ _. ⌜ now (words .exit) ≡ paste (now (words .entry)) at (now (part .entry)) (length (now (part .entry))) ⌝ }
 {
-    let capture = d.capture;
-    let registers = capture.registers;
-    let pins = capture.pins;
-    let syncs = capture.syncs;
-    let frame = capture.frame;
-    let partial = capture.partial;
-    let fifo = d.fifo;
-    let slots = fifo.slots;
-    let counts = d.counts;
+    let mut i = 0;
+    while i < part.len() {
+        words[at + i] = part[i];
+        i += 1;
+    }
+}
+
+// The words before the slots.
+fn words_before(s: Capture) -> [u32; SLOT]
+    ensures { λ r. ⌜ r ≡ image.words-before s ⌝ }
+{
+    let registers = s.registers;
+    let pins = s.pins;
+    let syncs = s.syncs;
+    let frame = s.frame;
+    let partial = s.partial;
     let hsync = flag(pins.hsync);
     let vsync = flag(pins.vsync);
     let clock = flag(pins.clock);
@@ -75,10 +95,6 @@ pub fn image_of(d: Device) -> [u32; 26]
     let open = frame_word(frame);
     let lines = lines_word(frame);
     let pixels = pixels_word(frame);
-    let slot0 = slots[0];
-    let slot1 = slots[1];
-    let slot2 = slots[2];
-    let slot3 = slots[3];
     [
         registers.cr,
         registers.ris,
@@ -93,20 +109,33 @@ pub fn image_of(d: Device) -> [u32; 26]
         open,
         lines,
         pixels,
-        capture.rate,
+        s.rate,
         partial.count,
         partial.bits,
-        slot0,
-        slot1,
-        slot2,
-        slot3,
-        fifo.held,
-        d.place,
+    ]
+}
+
+// The words of a device.
+pub fn image_of(d: Device) -> [u32; WORDS]
+    ensures { λ r. ⌜ r ≡ image.image-of d ⌝ }
+{
+    let before = words_before(d.core.capture);
+    let output = d.core.output;
+    let counts = output.counts;
+    let behind = [
+        output.held,
+        output.place,
         counts.samples,
         counts.completed,
         counts.landed,
         counts.discarded,
-    ]
+    ];
+    let slots = d.slots;
+    let mut words = [0; WORDS];
+    put(&mut words, 0, &before);
+    put(&mut words, BEHIND, &behind);
+    put(&mut words, SLOT, &slots);
+    words
 }
 
 // The flags are 0 or 1.
@@ -145,7 +174,7 @@ fn frame_encodes(frame: u32, lines: u32, pixels: u32) -> bool
 }
 
 // Whether an image encodes a device.
-pub fn encodes(w: [u32; 26]) -> bool
+pub fn encodes(w: [u32; WORDS]) -> bool
     ensures { λ r. ⌜ r ≡ image.encodes w ⌝ }
 {
     if flags_encode(w[5], w[6], w[7], w[8], w[9]) {
@@ -164,9 +193,9 @@ fn frame_of(frame: u32, lines: u32, pixels: u32) -> Frame
     Frame::Open(taken, Scan { lines, pixels })
 }
 
-// The device of an image.
-pub fn device_of(w: [u32; 26]) -> Device
-    ensures { λ r. ⌜ r ≡ image.device-of w ⌝ }
+// What the words before the slots say.
+fn capture_of(w: [u32; WORDS]) -> Capture
+    ensures { λ r. ⌜ r ≡ image.capture-of w ⌝ }
 {
     let registers = Registers {
         cr: w[0],
@@ -189,26 +218,41 @@ pub fn device_of(w: [u32; 26]) -> Device
         count: w[14],
         bits: w[15],
     };
-    let capture = Capture {
+    Capture {
         registers,
         pins,
         syncs,
         frame,
         rate: w[13],
         partial,
-    };
-    let slots = [w[16], w[17], w[18], w[19]];
-    let fifo = Fifo { slots, held: w[20] };
+    }
+}
+
+// What those behind the slots say.
+fn output_of(w: [u32; WORDS]) -> Output
+    ensures { λ r. ⌜ r ≡ image.output-of (drop image.behind w) ⌝ }
+{
     let counts = Counts {
-        samples: w[22],
-        completed: w[23],
-        landed: w[24],
-        discarded: w[25],
+        samples: w[BEHIND + 2],
+        completed: w[BEHIND + 3],
+        landed: w[BEHIND + 4],
+        discarded: w[BEHIND + 5],
     };
-    Device {
-        capture,
-        fifo,
-        place: w[21],
+    Output {
+        held: w[BEHIND],
+        place: w[BEHIND + 1],
         counts,
     }
+}
+
+// The device of an image.
+pub fn device_of(w: [u32; WORDS]) -> Device
+    ensures { λ r. ⌜ r ≡ image.device-of w ⌝ }
+{
+    let capture = capture_of(w);
+    let output = output_of(w);
+    let mut slots = [0; SLOTS];
+    put(&mut slots, 0, &w[SLOT..BEHIND]);
+    let core = Core { capture, output };
+    Device { core, slots }
 }

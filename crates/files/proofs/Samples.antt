@@ -1,20 +1,20 @@
 -- The samples of an accepted file, stretch by stretch: what is left leads to the same end as all of them.
 use mathlib.Core.Bool.{Bool, true, false, cond}
-use mathlib.Core.List.{List, [], _∷_, _++_}
+use mathlib.Core.List.{List, [], _∷_}
 use mathlib.Core.Path.{_≡_, refl, sym, ap, _∙_}
 use Prim.Native.Nat.{ℕ, zero, suc, _+_, _-_, _≤_, _<_, _^_}
 use native.Mathlib.Omega.{arith}
 use lib.Dec.{eqb}
 use lib.ListN.{length, take}
-use lib.Seq.{sets, length-sets, take-at}
+use lib.Seq.{length-sets, take-at}
 use borrow.Author.Tests.{ne-eqb, eqb-false}
 use Rattle.samples.specs.Samples.{any-bad}
 use Rattle.rules.specs.declared.Device.{Device}
 use Rattle.rules.specs.Run.{step, Ran, steps}
-use Rattle.rules.proofs.WellFormed.{WellFormed}
-use Rattle.laws.proofs.KeepsQueue.{step-keeps}
-use Rattle.sampling.specs.Answers.{stepped}
-use Rattle.sampling.proofs.Going.{step-samples}
+use Rattle.rules.specs.WellFormed.{malformed}
+use Rattle.rules.proofs.WellFormed.{WellFormed, well-formed}
+use Rattle.laws.proofs.Keeps.{steps-append, steps-keep}
+use Rattle.laws.proofs.KeepsSample.{step-samples}
 use Rattle.trace.specs.Reading.{form-refusal, sample-count, samples-from, samples-of, file-refusal}
 use Rattle.trace.specs.Answers as answers
 use Rattle.trace.specs.Stretches.{give}
@@ -27,18 +27,7 @@ use Rattle.trace.proofs.Filling.{put-over}
 use Rattle.trace.proofs.Rewritten.{length-samples-from, formed}
 use Rattle.trace.proofs.Stretches.{Part, taken-part, taken-end, taken-never, samples-over}
 
--- Samples one after the other: those of two lists are those of the second after those of the first.
-steps-append : (d : Device) (b xs ys : List ℕ) → steps d b (xs ++ ys) ≡ steps (steps d b xs .device) (steps d b xs .buffer) ys
-unfolding steps
-steps-append d b [] ys = refl
-steps-append d b (w ∷ ws) ys = steps-append (step d b w .device) (step d b w .buffer) ws ys
-
-steps-keeps : (d : Device) (b ws : List ℕ) → WellFormed d → WellFormed (steps d b ws .device)
-unfolding steps
-steps-keeps d b [] well = well
-steps-keeps d b (w ∷ ws) well = steps-keeps (step d b w .device) (step d b w .buffer) ws (step-keeps d b w well)
-
-steps-samples : (d : Device) (b ws : List ℕ) → steps d b ws .device .counts .samples ≡ d .counts .samples + length ws
+steps-samples : (d : Device) (b ws : List ℕ) → steps d b ws .device .core .output .counts .samples ≡ d .core .output .counts .samples + length ws
 unfolding steps
 steps-samples d b [] = omega arith
 steps-samples d b (w ∷ ws) = steps-samples (step d b w .device) (step d b w .buffer) ws ∙ rw step-samples (omega arith)
@@ -65,12 +54,12 @@ refused-file f r form e = go (any-bad (samples-of f)) (rw form at e)
 pub record Stepping (f buffer₀ : List ℕ) (d₀ : Device) (buffer : List ℕ) (d : Device) (k : ℕ) (array : List ℕ) : Type 0 where
   pub same : steps d buffer (samples-from f k (sample-count f - k)) ≡ steps d₀ buffer₀ (samples-of f)
   pub well : WellFormed d
-  pub count : d .counts .samples ≡ k
+  pub count : d .core .output .counts .samples ≡ k
   pub long : length buffer ≡ length buffer₀
   pub fine : any-bad (samples-from f k (sample-count f - k)) ≡ false
   pub room : length array ≡ 64
 
-pub stepping-start : (f buffer array : List ℕ) (d : Device) → WellFormed d → d .counts .samples ≡ 0 → file-refusal f ≡ 0 → length array ≡ 64 → Stepping f buffer d buffer d 0 array
+pub stepping-start : (f buffer array : List ℕ) (d : Device) → WellFormed d → d .core .output .counts .samples ≡ 0 → file-refusal f ≡ 0 → length array ≡ 64 → Stepping f buffer d buffer d 0 array
 stepping-start f buffer array d well zero-samples taken room =
     let all : sample-count f - 0 ≡ sample-count f = omega arith in
     record { same = rw all; well = well; count = zero-samples; long = refl; fine = rw all (accepted-file f taken .1); room = room }
@@ -100,23 +89,23 @@ module _ {f buffer₀ : List ℕ} {d₀ : Device} {buffer : List ℕ} {d : Devic
   stepping-room array′ n p = rw (p .front, length-sets) (omega (arith, p .most, s .room))
 
   -- They can all be counted.
-  pub stepping-asks : (array′ : List ℕ) (n : ℕ) → Part f k array array′ n → k + n ≤ 16384 → WellFormed d × (d .counts .samples + length (take n array′) < 2 ^ 32)
-  stepping-asks array′ n p few = (s .well, rw (stepping-part array′ n p, length-samples-from f k n) (omega (arith, s .count)))
+  pub stepping-asks : (array′ : List ℕ) (n : ℕ) → Part f k array array′ n → k + n ≤ 16384 → (malformed d ≡ false) × (d .core .output .counts .samples + length (take n array′) < 2 ^ 32)
+  stepping-asks array′ n p few = (well-formed d (s .well), rw (stepping-part array′ n p, length-samples-from f k n) (omega (arith, s .count)))
 
-  pub stepping-on : (array′ buffer′ : List ℕ) (d′ : Device) (n : ℕ) → Part f k array array′ n → stepped d′ buffer′ ≡ steps d buffer (samples-from f k n)
+  pub stepping-on : (array′ buffer′ : List ℕ) (d′ : Device) (n : ℕ) → Part f k array array′ n → _≡_ {A = Ran} (record { device = d′; buffer = buffer′ }) (steps d buffer (samples-from f k n))
       → length buffer′ ≡ length buffer → Stepping f buffer₀ d₀ buffer′ d′ (k + n) array′
   stepping-on array′ buffer′ d′ n p e el =
       let ed : d′ ≡ steps d buffer (samples-from f k n) .device = ap (λ (x : Ran). x .device) e in
       let eb : buffer′ ≡ steps d buffer (samples-from f k n) .buffer = ap (λ (x : Ran). x .buffer) e in
       record {
         same = rw (ed, eb, ← steps-append, ← p .left) (s .same);
-        well = rw ed (steps-keeps d buffer (samples-from f k n) (s .well));
+        well = rw ed (steps-keep d buffer (samples-from f k n) (s .well));
         count = rw (ed, steps-samples, length-samples-from) (omega (arith, s .count));
         long = el ∙ s .long;
         fine = p .fine;
         room = rw (p .front, length-sets) (s .room);
       }
 
-  pub stepping-end : sample-count f ≤ k → steps d₀ buffer₀ (samples-of f) ≡ stepped d buffer
+  pub stepping-end : sample-count f ≤ k → _≡_ {A = Ran} (steps d₀ buffer₀ (samples-of f)) (record { device = d; buffer = buffer })
   unfolding steps
   stepping-end past = sym (s .same) ∙ ap (λ (ws : List ℕ). steps d buffer ws) (samples-over f k (sample-count f) past)

@@ -11,12 +11,12 @@ use Rattle.registers.specs.Map.{register-at}
 use Rattle.registers.specs.declared.Found.{Found}
 use Rattle.registers.specs.declared.Found.the-variants.{At, Nothing}
 use Rattle.rules.specs.declared.Device.{Device}
-use Rattle.rules.specs.State.{fresh, with-capture}
+use Rattle.rules.specs.State.{fresh}
 use Rattle.rules.specs.Answers.{Changed}
-use Rattle.rules.specs.Queue.{discard}
+use Rattle.output.specs.Output.{OutputState, fresh-output, with-held, holding, with-counts, count-discarded, discard}
 use Rattle.rules.specs.RegisterCalls.{disables, write-refusal, write-at, write}
 use Rattle.rules.specs.WellFormed.{malformed}
-use Rattle.rules.proofs.Booleans.{either}
+use Rattle.bits.proofs.Booleans.{either}
 use Rattle.laws.proofs.Keeps.{fresh-well-formed}
 use Rattle.laws.proofs.KeepsWrites.{write-keeps}
 use Rattle.trace.specs.declared.Write.{Write}
@@ -24,23 +24,23 @@ use Rattle.trace.specs.Reading as reading
 use Rattle.trace.proofs.Walk.{write-place}
 use Rattle.files.specs.File.{set-up}
 
-found-samples : (d : Device) (r : Found) (v : ℕ) → write-at d r v .counts .samples ≡ d .counts .samples
-unfolding write-at with-capture discard
+found-samples : (d : Device) (r : Found) (v : ℕ) → write-at d r v .core .output .counts .samples ≡ d .core .output .counts .samples
+unfolding write-at discard holding with-held count-discarded with-counts
 found-samples d Nothing v = refl
-found-samples d (At r) v = either (λ (e : Device). e .counts .samples ≡ d .counts .samples) (disables (d .capture .registers .cr) r v) refl refl
+found-samples d (At r) v = either (λ (x : OutputState). x .output .counts .samples ≡ d .core .output .counts .samples) (disables (d .core .capture .registers .cr) r v) refl refl
 
-pub write-samples : (d : Device) (offset v : ℕ) → write d offset v .device .counts .samples ≡ d .counts .samples
+pub write-samples : (d : Device) (offset v : ℕ) → write d offset v .device .core .output .counts .samples ≡ d .core .output .counts .samples
 unfolding write
 write-samples d offset v =
-    either (λ (e : Device). e .counts .samples ≡ d .counts .samples) (eqb (write-refusal d offset v) 0) (found-samples d (register-at offset) v) refl
+    either (λ (e : Device). e .core .output .counts .samples ≡ d .core .output .counts .samples) (eqb (write-refusal d offset v) 0) (found-samples d (register-at offset) v) refl
 
 pub record Setting (file : List ℕ) (d : Device) (place : ℕ) : Type 0 where
   pub leads : set-up d (reading.writes-from file place (reading.write-count file - place)) ≡ set-up fresh (reading.writes-of file)
   pub well : malformed d ≡ false
-  pub samples : d .counts .samples ≡ 0
+  pub samples : d .core .output .counts .samples ≡ 0
 
 pub starting : (file : List ℕ) → Setting file fresh 0
-unfolding fresh
+unfolding fresh fresh-output holding with-held
 starting file =
     let all : reading.write-count file - 0 ≡ reading.write-count file = omega arith in
     record { leads = rw all; well = fresh-well-formed; samples = refl }
@@ -57,7 +57,7 @@ module _ {file : List ℕ} {d : Device} {place : ℕ} (s : Setting file d place)
       rw (n, add-one, same)
 
   -- Either way the device is well-formed and has counted no sample.
-  pub setting-keeps : (w : Write) (r : Changed) → w .value < 2 ^ 32 → r ≡ write d (w .offset) (w .value) → (malformed (r .device) ≡ false) × (r .device .counts .samples ≡ 0)
+  pub setting-keeps : (w : Write) (r : Changed) → w .value < 2 ^ 32 → r ≡ write d (w .offset) (w .value) → (malformed (r .device) ≡ false) × (r .device .core .output .counts .samples ≡ 0)
   setting-keeps w r small a = (rw a (write-keeps d (w .offset) (w .value) small (s .well)), rw (a, write-samples) (s .samples))
 
   -- Accepted, the rest of the writes is left.

@@ -2,8 +2,6 @@
 // from the file by the trace crate, writes one at a time and samples by stretches. Refused, the memory is as it was lent.
 ghost use mathlib.Core.Bool.{false};
 ghost use mathlib.Core.Path.{_≡_};
-ghost use Prim.Native.Nat.{_+_, _<_, _^_};
-ghost use lib.ListN.{length};
 ghost use Rattle.rules.specs.State as state;
 ghost use Rattle.rules.specs.RegisterCalls as register-calls;
 ghost use Rattle.rules.specs.Run as rules;
@@ -11,13 +9,13 @@ ghost use Rattle.rules.specs.WellFormed.{malformed};
 ghost use Rattle.rules.proofs.WellFormed.{WellFormed};
 ghost use Rattle.trace.specs.Reading as reading;
 ghost use Rattle.device.specs.Answers as calls;
-ghost use Rattle.sampling.specs.Answers as sampling;
 ghost use Rattle.files.specs.File as file-rules;
 ghost use Rattle.files.specs.Answers as answers;
 use device::Changed;
 use refusals::Outcome;
 use refusals::Refusal;
 use rules::Device;
+use sampling::run;
 use trace::Item;
 use trace::Stretch;
 use trace::Write;
@@ -43,7 +41,7 @@ fn write_item(d: Device, w: Write) -> Changed
 // The writes of a file on a fresh device, up to the first that is refused. Before the last of them no sample, end or refusal is read.
 fn set_up(file: &[u8]) -> Changed
     ensures { λ r. ⌜ calls.changed r ≡ file-rules.set-up state.fresh (reading.writes-of (now (file .entry))) ⌝ }
-    ensures { λ r. ⌜ (malformed (r .device) ≡ false) × (r .device .counts .samples ≡ 0) ⌝ }
+    ensures { λ r. ⌜ (malformed (r .device) ≡ false) × (r .device .core .output .counts .samples ≡ 0) ⌝ }
 {
     let writes = write_count(file);
     let mut d = device::fresh();
@@ -76,19 +74,10 @@ fn set_up(file: &[u8]) -> Changed
     }
 }
 
-// Some samples of a file, with no more tests of them.
-fn run_stretch(d: Device, buffer: &mut [u8], samples: &[u32]) -> Device
-    requires { ⌜ WellFormed d ⌝ }
-    requires { ⌜ d .counts .samples + length (now samples) < 2 ^ 32 ⌝ }
-    ensures { λ r. ⌜ sampling.stepped r (now (buffer .exit)) ≡ rules.steps d (now (buffer .entry)) (now (samples .entry)) ⌝ }
-{
-    sampling::steps(d, buffer, samples)
-}
-
 // The samples of an accepted file in order, stretch by stretch: none is refused.
 fn steps(d: Device, buffer: &mut [u8], file: &[u8]) -> Ran
     requires { ⌜ WellFormed d ⌝ }
-    requires { ⌜ d .counts .samples ≡ 0 ⌝ }
+    requires { ⌜ d .core .output .counts .samples ≡ 0 ⌝ }
     requires { ⌜ reading.file-refusal (now file) ≡ 0 ⌝ }
     ensures { λ r. ⌜ answers.ran r (now (buffer .exit)) ≡ file-rules.stepped (rules.steps d (now (buffer .entry)) (reading.samples-of (now (file .entry)))) ⌝ }
 {
@@ -109,7 +98,7 @@ fn steps(d: Device, buffer: &mut [u8], file: &[u8]) -> Ran
                 outcome: Outcome::Refused(refusal),
             };
         };
-        e = run_stretch(e, buffer, &samples[..n]);
+        e = run(e, buffer, &samples[..n]);
         done += n;
     }
 }
@@ -117,7 +106,7 @@ fn steps(d: Device, buffer: &mut [u8], file: &[u8]) -> Ran
 // The samples of a file as one run on a device that has counted none: refusals 9 and 7.
 fn run_samples(d: Device, file: &[u8], memory: &mut [u8], start: usize) -> Ran
     requires { ⌜ malformed d ≡ false ⌝ }
-    requires { ⌜ d .counts .samples ≡ 0 ⌝ }
+    requires { ⌜ d .core .output .counts .samples ≡ 0 ⌝ }
     requires { ⌜ reading.form-refusal (now file) ≡ 0 ⌝ }
     ensures { λ r. ⌜ answers.ran r (now (memory .exit)) ≡ file-rules.of-run (rules.run d (now (memory .entry)) start (reading.samples-of (now (file .entry)))) ⌝ }
 {

@@ -1,10 +1,11 @@
 // The frame printer: it runs the trace file on standard input over 16,384 zero bytes, and prints the refusal, or the counts, the flags and each
 // landed word. At most one byte more than the largest file is read. A read that fails ends the input; a write that fails ends the output.
 ghost use mathlib.Core.Path.{_≡_};
-ghost use Prim.Native.Nat.{_<_, _^_};
+ghost use Prim.Native.Nat.{_<_};
 ghost use Rattle.frame_printer.specs.Text as spelling;
 use libc::STDIN_FILENO;
 use libc::STDOUT_FILENO;
+use output::word_at;
 use refusals::Outcome;
 use rules::Device;
 
@@ -66,11 +67,11 @@ fn flags_line(ris: u32) -> bool {
 }
 
 fn counts(d: Device) -> bool {
-    if count_line(b"samples ", d.counts.samples) {
-        if count_line(b"words ", d.counts.landed) {
-            if count_line(b"held ", d.fifo.held) {
-                if count_line(b"discarded ", d.counts.discarded) {
-                    return flags_line(d.capture.registers.ris);
+    if count_line(b"samples ", d.core.output.counts.samples) {
+        if count_line(b"words ", d.core.output.counts.landed) {
+            if count_line(b"held ", d.core.output.held) {
+                if count_line(b"discarded ", d.core.output.counts.discarded) {
+                    return flags_line(d.core.capture.registers.ris);
                 }
                 return false;
             }
@@ -79,26 +80,6 @@ fn counts(d: Device) -> bool {
         return false;
     }
     false
-}
-
-fn wide(x: u8) -> u32
-    ensures { λ r. ⌜ r < 2 ^ 8 ⌝ }
-{
-    x as u32
-}
-
-// The word in the four bytes from one on; 0 beyond the end.
-fn word_at(memory: &[u8], at: usize) -> u32 {
-    if at < 16384 {
-        if at + 3 < memory.len() {
-            return wide(memory[at])
-                + 256 * wide(memory[at + 1])
-                + 65536 * wide(memory[at + 2])
-                + 16777216 * wide(memory[at + 3]);
-        }
-        return 0;
-    }
-    0
 }
 
 // The landed words in order.
@@ -130,7 +111,7 @@ fn print(file: &[u8], memory: &mut [u8]) {
         return;
     };
     if counts(d) {
-        words(memory, d.counts.landed);
+        words(memory, d.core.output.counts.landed);
     }
 }
 

@@ -6,7 +6,7 @@ use Prim.Native.Nat.{ℕ, zero, suc, _*_, _^_, _≤_, _<_}
 use native.Mathlib.Omega.{arith}
 use lib.Pow.{pow-pos}
 use Rattle.bits.specs.Bits.{field}
-use Rattle.registers.specs.Control.{enable}
+use Rattle.registers.specs.Control.{edm, enable}
 use Rattle.rules.specs.declared.Registers.{Registers}
 use Rattle.rules.specs.declared.Pins.{Pins}
 use Rattle.rules.specs.declared.Syncs.{Syncs}
@@ -15,9 +15,11 @@ use Rattle.rules.specs.declared.Frame.{Frame}
 use Rattle.rules.specs.declared.Frame.the-variants.{Closed, Open}
 use Rattle.rules.specs.declared.Partial.{Partial}
 use Rattle.rules.specs.declared.Capture.{Capture}
-use Rattle.rules.specs.State.{lowered, raised, with-cr, with-ris, with-registers, with-pins, with-syncs, with-frame, with-partial, raise, clear-capture, close-frame}
-use Rattle.rules.specs.Capture.{rate-period, width, per-word}
-use Rattle.rules.specs.WellFormed.{unused-bits, excluded, is-open, is-taken, lines, pixels}
+use Rattle.rules.specs.State.{is-open, is-taken, lowered, raised, with-cr, with-ris, with-registers, with-pins, with-syncs, with-frame, with-partial, raise, clear-capture, close-frame}
+use Rattle.packing.specs.Packing.{width, per-word}
+use Rattle.packing.proofs.Lanes.{per-word-positive}
+use Rattle.rules.specs.Capture.{rate-period}
+use Rattle.rules.specs.WellFormed.{unused-bits, excluded, lines, pixels}
 use Rattle.rules.proofs.WellFormed.{CaptureOk}
 use Rattle.laws.proofs.RegisterValues.{raised-fits, lowered-enable, lowered-setup, lowered-allowed, same-fcrc, same-edm}
 use Rattle.laws.proofs.Packing.{unused}
@@ -44,13 +46,13 @@ pub registers-ok : {n : ℕ} {s : Capture} (r : Registers)
     → enable (r .cr) ≡ enable (s .registers .cr) → field 13 1 (r .cr) ≡ field 13 1 (s .registers .cr)
     → excluded r ≡ false → r .ris ≤ 31 → r .ier ≤ 31
     → CaptureOk n s → CaptureOk n (with-registers r s)
-unfolding with-registers unused-bits width per-word rate-period
+unfolding with-registers unused-bits rate-period
 registers-ok {s = s} r on setup allowed ris ier h =
-    let edm = same-edm (r .cr) (s .registers .cr) setup in
+    let bits = same-edm (r .cr) (s .registers .cr) setup in
     let fcrc = same-fcrc (r .cr) (s .registers .cr) setup in
     record {
-      unused = rw edm (h .unused);
-      short = rw edm (h .short);
+      unused = rw bits (h .unused);
+      short = rw bits (h .short);
       allowed = allowed;
       ris = ris;
       ier = ier;
@@ -69,7 +71,7 @@ none-partial (Open taken f) c inside e = absurd (true≢false e)
 
 -- Another partial word, within its data and inside a taken frame.
 pub partial-ok : {n : ℕ} {s : Capture} (p : Partial)
-    → p .bits < 2 ^ (width (s .registers .cr) * p .count) → p .count < per-word (s .registers .cr)
+    → p .bits < 2 ^ (width (edm (s .registers .cr)) * p .count) → p .count < per-word (edm (s .registers .cr))
     → (0 < p .count → is-taken (s .frame) ≡ true)
     → CaptureOk n s → CaptureOk n (with-partial p s)
 unfolding with-partial
@@ -123,7 +125,7 @@ unfolding close-frame with-partial with-frame
 close-frame-ok h =
     record {
       unused = unused _ (pow-pos _);
-      short = omega arith;
+      short = per-word-positive _;
       allowed = h .allowed;
       ris = h .ris;
       ier = h .ier;

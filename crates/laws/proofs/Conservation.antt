@@ -29,5 +29,5 @@ never-malformed cs = calls-keep _ cs fresh-well-formed
 
 -- The counts balance.
 pub conservation : (cs : List Call)
-    → reached cs .counts .completed ≡ reached cs .counts .landed + reached cs .fifo .held + reached cs .counts .discarded
-conservation cs = facts (reached cs) (never-malformed cs) .queue .equation
+    → reached cs .core .output .counts .completed ≡ reached cs .core .output .counts .landed + reached cs .core .output .held + reached cs .core .output .counts .discarded
+conservation cs = facts (reached cs) (never-malformed cs) .output .equation

@@ -1,24 +1,29 @@
 -- A device is well-formed when fresh, and a run of samples and a single sample keep it so.
--- The idea: each sample does (KeepsQueue), so all of them do, by induction; a refused call leaves the device as it was. Assumes nothing.
+-- The idea: each sample does (KeepsSample), so all of them do, by induction; a refused call leaves the device as it was. Assumes nothing.
 use mathlib.Core.Bool.{false}
-use mathlib.Core.List.{List, [], _∷_}
+use mathlib.Core.List.{List, [], _∷_, _++_}
 use mathlib.Core.Path.{_≡_, refl}
 use Prim.Native.Nat.{ℕ}
 use lib.Dec.{eqb}
 use lib.ListN.{drop}
-use Rattle.registers.specs.Control.{unsupported}
 use Rattle.rules.specs.declared.Device.{Device}
 use Rattle.rules.specs.State.{fresh}
-use Rattle.rules.specs.Capture.{rate-period, width, per-word}
-use Rattle.rules.specs.WellFormed.{all-zero, bad-fifo, unused-bits, full-partial, excluded, bad-flags, active-disabled, partial-outside, bad-rate, above-samples, bad-place, bad-counts, malformed}
-use Rattle.rules.specs.Run.{steps, run-refusal, run, sample}
-use Rattle.rules.proofs.Booleans.{either}
+use Rattle.rules.specs.WellFormed.{malformed}
+use Rattle.rules.proofs.EveryRule.{every-rule}
+use Rattle.rules.specs.Run.{step, steps, run-refusal, run, sample}
+use Rattle.bits.proofs.Booleans.{either}
 use Rattle.rules.proofs.WellFormed.{WellFormed, facts, well-formed}
-use Rattle.laws.proofs.KeepsQueue.{step-keeps}
+use Rattle.laws.proofs.KeepsSample.{step-keeps}
 
 pub fresh-well-formed : malformed fresh ≡ false
-unfolding fresh unsupported rate-period width per-word all-zero bad-fifo unused-bits full-partial excluded bad-flags active-disabled partial-outside bad-rate above-samples bad-place bad-counts malformed
+unfolding every-rule
 fresh-well-formed = refl
+
+-- Samples one after the other: those of two lists are those of the second after those of the first.
+pub steps-append : (d : Device) (b xs ys : List ℕ) → steps d b (xs ++ ys) ≡ steps (steps d b xs .device) (steps d b xs .buffer) ys
+unfolding steps
+steps-append d b [] ys = refl
+steps-append d b (w ∷ ws) ys = steps-append (step d b w .device) (step d b w .buffer) ws ys
 
 pub steps-keep : (d : Device) (buffer samples : List ℕ) → WellFormed d → WellFormed (steps d buffer samples .device)
 unfolding steps

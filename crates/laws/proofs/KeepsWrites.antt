@@ -16,16 +16,17 @@ use Rattle.registers.specs.declared.Found.{Found}
 use Rattle.registers.specs.declared.Found.the-variants.{At, Nothing}
 use Rattle.rules.specs.declared.Capture.{Capture}
 use Rattle.rules.specs.declared.Device.{Device}
-use Rattle.rules.specs.State.{with-cr, with-ris, with-ier, with-cwstrt, with-cwsize, with-registers, with-capture}
-use Rattle.rules.specs.Queue.{discard}
+use Rattle.rules.specs.State.{with-cr, with-ris, with-ier, with-cwstrt, with-cwsize, with-registers, device, capture-of, output-of}
+use Rattle.output.specs.Output.{OutputState, with-held, holding, with-counts, count-discarded, with-place, discard}
+use Rattle.output.proofs.WellFormed.{enabling-ok, discard-ok}
 use Rattle.refusals.specs.Refusals.{_⇒_, first}
 use Rattle.rules.specs.WellFormed.{malformed, excluded}
 use Rattle.rules.specs.RegisterCalls.{reserved-at, unsupported-at, fixed-at, register-tests, write-refusal, write-control, clear-flags, write-register, write-at, write, rearmed, rearm}
-use Rattle.rules.proofs.Booleans.{and-false-left, not-is-true, by-cond, either}
+use Rattle.rules.proofs.Booleans.{and-false-left, not-is-true}
+use Rattle.bits.proofs.Booleans.{by-cond, either}
 use Rattle.rules.proofs.WellFormed.{CaptureOk, WellFormed, facts, well-formed}
 use Rattle.laws.proofs.RegisterValues.{allowed, not-excluded}
 use Rattle.laws.proofs.CaptureParts.{registers-ok}
-use Rattle.laws.proofs.KeepsQueue.{around, discard-ok}
 use Rattle.refusals.proofs.Accepted.{accepted}
 use Rattle.laws.proofs.WriteControl.{write-control-ok}
 
@@ -55,39 +56,37 @@ module _ {n : ℕ} (v : ℕ) (s : Capture) (h : CaptureOk n s) where
       registers-ok (with-cwsize v (s .registers)) refl refl (not-excluded _ (cr, (ier, (start, (reserved, rest))))) (h .ris) (h .ier) h
 
 -- A capture state put into the device, with the same ENABLE.
-capture-ok : (s : Capture) (d : Device) → enable (s .registers .cr) ≡ enable (d .capture .registers .cr)
-    → CaptureOk (d .counts .samples) s → WellFormed d → WellFormed (with-capture s d)
-unfolding with-capture
-capture-ok s d same c w = record { capture = c; queue = around s (λ off. sym same ∙ off) (w .queue) }
+capture-ok : (s : Capture) (d : Device) → enable (s .registers .cr) ≡ enable (d .core .capture .registers .cr)
+    → CaptureOk (d .core .output .counts .samples) s → WellFormed d → WellFormed (device s (output-of d))
+capture-ok s d same c w = record { capture = c; output = enabling-ok (w .output) (λ off. sym same ∙ off) }
 
 -- CR written, and the held words discarded where ENABLE falls.
-control-ok : (d : Device) (v : ℕ) → CaptureOk (d .counts .samples) (write-control v (d .capture)) → WellFormed d
+control-ok : (d : Device) (v : ℕ) → CaptureOk (d .core .output .counts .samples) (write-control v (capture-of d)) → WellFormed d
     → WellFormed (write-at d (At Control) v)
-unfolding write-at write-register write-control discard with-capture with-registers with-cr
+unfolding write-at write-register write-control discard holding with-held count-discarded with-counts with-registers with-cr
 control-ok d v c w =
-    let q = w .queue in
-    let s = write-control v (d .capture) in
-    by-cond (λ (x : Device). WellFormed (with-capture s x)) (enable (d .capture .registers .cr) && not (enable v)) _ _
-    (λ falls. record { capture = c; queue = around s (λ x. x) (discard-ok _ 0 d (q .completed) (q .place) (omega arith)) })
-    (λ stays. record { capture = c; queue = around s (λ off. and-false-left _ _ stays (not-is-true (enable v) off)) q })
+    let q = w .output in
+    by-cond (λ (x : OutputState). WellFormed (device (write-control v (capture-of d)) x)) (enable (d .core .capture .registers .cr) && not (enable v)) _ _
+    (λ falls. record { capture = c; output = discard-ok q 0 (d .core .output) (q .completed) (q .place) (omega (arith, q .equation)) })
+    (λ stays. record { capture = c; output = enabling-ok q (λ off. and-false-left _ _ stays (not-is-true (enable v) off)) })
 
 write-at-ok : (d : Device) (r : Found) (v : ℕ) → v < 2 ^ 32 → reserved-at r v ≡ false → unsupported-at r v ≡ false
-    → fixed-at (d .capture .registers .cr) r v ≡ false → WellFormed d → WellFormed (write-at d r v)
-unfolding write-at write-register with-ier with-cwstrt with-cwsize clear-flags with-ris with-registers with-capture
+    → fixed-at (d .core .capture .registers .cr) r v ≡ false → WellFormed d → WellFormed (write-at d r v)
+unfolding write-at write-register with-ier with-cwstrt with-cwsize clear-flags with-ris with-registers
 write-at-ok d Nothing v small a b c w = w
-write-at-ok d (At Control) v small a b c w = control-ok d v (write-control-ok v a b (d .capture) (w .capture) c) w
+write-at-ok d (At Control) v small a b c w = control-ok d v (write-control-ok v a b (d .core .capture) (w .capture) c) w
 write-at-ok d (At Status) v small a b c w = w
 write-at-ok d (At RawStatus) v small a b c w = w
-write-at-ok d (At InterruptEnable) v small a b c w = capture-ok _ d refl (write-enable-ok v (d .capture) (w .capture) small a) w
+write-at-ok d (At InterruptEnable) v small a b c w = capture-ok _ d refl (write-enable-ok v (d .core .capture) (w .capture) small a) w
 write-at-ok d (At MaskedStatus) v small a b c w = w
-write-at-ok d (At InterruptClear) v small a b c w = capture-ok _ d refl (write-clear-ok v (d .capture) (w .capture)) w
-write-at-ok d (At WindowStart) v small a b c w = capture-ok _ d refl (write-start-ok v (d .capture) (w .capture) a) w
-write-at-ok d (At WindowSize) v small a b c w = capture-ok _ d refl (write-size-ok v (d .capture) (w .capture) a) w
+write-at-ok d (At InterruptClear) v small a b c w = capture-ok _ d refl (write-clear-ok v (d .core .capture) (w .capture)) w
+write-at-ok d (At WindowStart) v small a b c w = capture-ok _ d refl (write-start-ok v (d .core .capture) (w .capture) a) w
+write-at-ok d (At WindowSize) v small a b c w = capture-ok _ d refl (write-size-ok v (d .core .capture) (w .capture) a) w
 
 accepted-ok : (d : Device) (offset v : ℕ) → v < 2 ^ 32 → write-refusal d offset v ≡ 0 → WellFormed d → WellFormed (write-at d (register-at offset) v)
 unfolding write-refusal
 accepted-ok d offset v small e w =
-    let tests = malformed d ⇒ 1 ∷ register-tests (d .capture .registers .cr) (register-at offset) v in
+    let tests = malformed d ⇒ 1 ∷ register-tests (d .core .capture .registers .cr) (register-at offset) v in
     let (formed, (there, (writable, (reserved, (supported, (free, end)))))) = accepted tests (omega arith) e in
     write-at-ok d (register-at offset) v small reserved supported free w
 
@@ -99,12 +98,12 @@ write-keeps d offset v small e =
     (λ t. e)
 
 rearmed-ok : (d : Device) → WellFormed d → WellFormed (rearmed d)
-unfolding rearmed
+unfolding rearmed with-place
 rearmed-ok d w =
-    let q = w .queue in
+    let q = w .output in
     record {
       capture = w .capture;
-      queue =
+      output =
           record { held = q .held; clear = q .clear; idle = q .idle; completed = q .completed; place = omega arith; equation = q .equation };
     }
 

@@ -16,7 +16,8 @@ use Rattle.rules.specs.declared.Registers.{Registers}
 use Rattle.rules.specs.State.{raised, lowered, with-cr}
 use Rattle.rules.specs.WellFormed.{excluded}
 use Rattle.bits.proofs.Booleans.{or-false}
-use Rattle.rules.proofs.Booleans.{both-false, and-false, by-cond, None, none, none-any}
+use Rattle.rules.proofs.Booleans.{both-false, and-false, None, none, none-any}
+use Rattle.bits.proofs.Booleans.{by-cond}
 
 bit-true : (k x : ℕ) → bit k x ≡ true → x / 2 ^ k % 2 ≡ 1
 bit-true k x e = eqb-true (x / 2 ^ k % 2) 1 e
@@ -37,7 +38,7 @@ raised-fits (suc (suc (suc zero))) x flag h = raised-where 3 x (omega arith) h
 raised-fits (suc (suc (suc (suc zero)))) x flag h = raised-where 4 x (omega arith) h
 raised-fits (suc (suc (suc (suc (suc k))))) x flag h = absurd (omega arith)
 
-lowered-half : (x : ℕ) → lowered 0 x / 2 ≡ x / 2
+pub lowered-half : (x : ℕ) → lowered 0 x / 2 ≡ x / 2
 unfolding lowered
 lowered-half x = by-cond (λ y. y / 2 ≡ x / 2) (bit 0 x) _ _ (λ e. omega (arith, bit-true 0 x e)) (λ e. refl)
 
@@ -51,6 +52,13 @@ lowered-capture x =
 -- Bits from bit 1 on.
 same-above : (k x y : ℕ) → x / 2 ≡ y / 2 → x / 2 ^ suc k ≡ y / 2 ^ suc k
 same-above k x y h = rw (pow-succ' 2 k, ← div-div-eq-div-mul x 2 (2 ^ k), ← div-div-eq-div-mul y 2 (2 ^ k), h)
+
+-- Two values that differ in CAPTURE at most: the bits 13:1 and ENABLE.
+pub half-setup : (x y : ℕ) → x / 2 ≡ y / 2 → field 13 1 x ≡ field 13 1 y
+half-setup x y h = rw h
+
+pub half-enable : (x y : ℕ) → x / 2 ≡ y / 2 → enable x ≡ enable y
+half-enable x y h = rw (same-above 13 x y h)
 
 -- CAPTURE cleared: ENABLE and the bits 13:1, and with them FCRC and EDM, stay.
 pub lowered-enable : (x : ℕ) → enable (lowered 0 x) ≡ enable x

@@ -8,22 +8,24 @@ use native.Mathlib.Omega.{arith}
 use lib.Pow.{pow-pos}
 use borrow.Author.Tests.{eqb-true, not-false}
 use Rattle.bits.specs.Bits.{field}
-use Rattle.registers.specs.Control.{enable, unsupported}
+use Rattle.registers.specs.Control.{edm, enable, unsupported}
 use Rattle.registers.specs.Map.{reserved-set}
 use Rattle.registers.specs.declared.Register.the-variants.{Control}
 use Rattle.rules.specs.declared.Frame.{Frame}
 use Rattle.rules.specs.declared.Frame.the-variants.{Closed, Open}
 use Rattle.rules.specs.declared.Capture.{Capture}
-use Rattle.rules.specs.State.{close-frame, with-cr, with-registers, with-syncs, with-frame, with-rate, with-partial}
-use Rattle.rules.specs.WellFormed.{excluded, unused-bits, is-open, lines, pixels}
+use Rattle.rules.specs.State.{is-open, close-frame, with-cr, with-registers, with-syncs, with-frame, with-rate, with-partial}
+use Rattle.rules.specs.WellFormed.{excluded, unused-bits, lines, pixels}
 use Rattle.rules.specs.RegisterCalls.{changes-setup, enabling, disabling, switch-enable, capture-rises, switch-capture, write-control}
 use Rattle.bits.proofs.Booleans.{or-false}
-use Rattle.rules.proofs.Booleans.{and-false, by-cond, either}
+use Rattle.rules.proofs.Booleans.{and-false}
+use Rattle.bits.proofs.Booleans.{by-cond, either}
 use Rattle.rules.proofs.WellFormed.{CaptureOk}
 use Rattle.laws.proofs.RegisterValues.{allowed-cr}
-use Rattle.laws.proofs.Packing.{used, unused, per-word-positive}
+use Rattle.laws.proofs.Packing.{used, unused}
 use Rattle.laws.proofs.CaptureParts.{registers-ok}
-use Rattle.laws.proofs.KeepsFrame.{period-positive}
+use Rattle.laws.proofs.Kept.{period-positive}
+use Rattle.packing.proofs.Lanes.{per-word-positive}
 
 -- At rest: no frame open, no partial word, the rate counter 0.
 record Rest (s : Capture) : Type 0 where
@@ -38,7 +40,7 @@ rest-ok : {n : ℕ} (s : Capture) → excluded (s .registers) ≡ false → s .r
 rest-ok s allowed ris ier r =
     record {
       unused = unused s (rw (r .bits) (pow-pos _));
-      short = rw (r .count) (per-word-positive (s .registers .cr));
+      short = rw (r .count) (per-word-positive (edm (s .registers .cr)));
       allowed = allowed;
       ris = ris;
       ier = ier;

@@ -41,6 +41,7 @@ pub record Flow {A : Type 0} (d : ℕ) (q : Queue A) (xs : List (Input A)) (r : 
   pub keeps : length (q .left) + length (q .held) ≤ length (r .left) + length (r .held)
   pub counts : length (r .left) + length (r .held) ≤ length (q .left) + length (q .held) + length (words xs)
   pub busy : length (q .left) + min (grants xs) (length (q .held)) ≤ length (r .left)
+  pub most : length (r .left) ≤ length (q .left) + grants xs
   pub fits : length (q .held) ≤ d → length (r .held) ≤ d
   pub lost : q .lost ≤ r .lost
   pub order : r .lost ≡ q .lost → r .left ++ r .held ≡ q .left ++ q .held ++ words xs
@@ -53,6 +54,7 @@ module _ {A : Type 0} where
         keeps = omega arith;
         counts = omega arith;
         busy = omega arith;
+        most = omega arith;
         fits = λ h. h;
         lost = omega arith;
         order = λ e. sym (append-nil _);
@@ -68,6 +70,7 @@ module _ {A : Type 0} where
         keeps = omega arith;
         counts = omega arith;
         busy = omega arith;
+        most = omega arith;
         fits = λ h. a .fits (omega arith);
         lost = omega arith;
         order = λ e. rw (← l .order) (a .order (omega arith));
@@ -82,6 +85,7 @@ module _ {A : Type 0} where
         keeps = omega arith;
         counts = omega arith;
         busy = omega arith;
+        most = omega arith;
         fits = λ h. g .fits (f .fits h);
         lost = omega arith;
         order = λ e. rw (words-append xs ys, ← append-assoc (q .left ++ q .held) (words xs), ← f .order (omega arith)) (g .order (omega arith));

@@ -1,114 +1,136 @@
--- The premises can be met; with windows one sample longer, or one grant fewer in each, a word is lost. Depth 4, a word at every fourth sample.
--- By computation on three closed lists: the queue after each, and a test of its windows that every tail of the list passes.
-use Prim.Native.Nat.{ℕ, zero, suc, _+_, _%_, _≤_}
-use mathlib.Core.Path.{_≡_, refl}
-use mathlib.Core.Bool.{Bool, true, false, cond, _&&_, _||_, false≢true}
+-- The premise is sharp at every depth and spacing: where windows of w samples hold g grants, words come s samples apart, and g * s < w, a queue of any depth
+-- loses a word. By counting: in the end more words have come than there were grants, by more than the depth.
+use Prim.Native.Nat.{ℕ, zero, suc, _+_, _*_, _-_, _%_, _≤_, _<_, min}
+use mathlib.Core.Path.{_≡_, refl, ap}
+use mathlib.Core.Bool.{Bool, true, false, cond}
 use mathlib.Core.Option.{none, some}
-use mathlib.Core.List.{List, [], _∷_, _++_}
+use mathlib.Core.List.{List, [], _∷_}
+use native.Mathlib.Nat.{add-zero, add-suc, zero-add, suc-add, zero-mul, suc-mul, add-mod-right, mod-eq-of-lt, mul-le-mul-left, zero-min, min-zero, suc-min-suc, sub-zero, zero-sub, suc-sub-suc}
+use native.Mathlib.Numerals.{add-one}
 use native.Mathlib.Omega.{arith}
-use lib.ListN.{length, take, drop, replicate, length-drop}
-use lib.Dec.{ltb, leb, eqb}
-use borrow.Author.Tests.{leb-true, le-ltb}
-use Rattle.queue.specs.Queue.{Input, start, leave, arrive, sample, from, after, grants, words, Granted, Spaced}
+use lib.ListN.{length, take, drop, length-append}
+use lib.Seq.{take-nil}
+use lib.Dec.{ltb}
+use borrow.Author.Tests.{ltb-true, ltb-false}
+use Rattle.queue.specs.Queue.{Input, start, after, grants, words, Spaced}
+use Rattle.queue.proofs.Flow.{flow, queue-law}
 
--- a period of m samples that grant and n that do not
-period : ℕ → ℕ → List Bool
-period m n = replicate m true ++ replicate n false
+-- How many of the n numbers from i on pass a test.
+count : (ℕ → Bool) → ℕ → ℕ → ℕ
+count f i zero = 0
+count f i (suc n) = cond (f i) 1 0 + count f (suc i) n
 
--- n times a list
-times : ℕ → List Bool → List Bool
-times zero gs = []
-times (suc n) gs = gs ++ times n gs
+count-add : (f : ℕ → Bool) (i m n : ℕ) → count f i (m + n) ≡ count f i m + count f (i + m) n
+unfolding count
+count-add f i zero n = rw (zero-add, add-zero) (omega arith)
+count-add f i (suc m) n = rw (suc-add, add-suc) (omega (arith, rw suc-add at (count-add f (suc i) m n)))
 
--- the inputs with these grants from sample number i on: samples 3, 7, 11 and so on bring a word, which is the sample's number
-inputs : ℕ → List Bool → List (Input ℕ)
-inputs i [] = []
-inputs i (g ∷ gs) = record { grant = g; word = cond (eqb (i % 4) 3) (some i) none } ∷ inputs (suc i) gs
+-- The first g of each p numbers: each p in a row have g of them.
+first-of : ℕ → ℕ → ℕ → Bool
+first-of p g i = ltb (i % p) g
 
--- 4 grants in each 16 samples
-pub plenty : List (Input ℕ)
-plenty = inputs 0 (times 2 (period 4 12))
+module _ (p g : ℕ) (few : g ≤ p) where
+  in-first : (i n : ℕ) → i + n ≤ p → count (first-of p g) i n ≡ min (g - i) n
+  unfolding count first-of
+  in-first i zero le = omega arith
+  in-first i (suc n) le = rw (mod-eq-of-lt {n = i} {m = p} (omega arith)) (go (ltb i g) refl (in-first (suc i) n (omega arith)))
+    where
+      go : (b : Bool) → ltb i g ≡ b → count (first-of p g) (suc i) n ≡ min (g - suc i) n → cond b 1 0 + count (first-of p g) (suc i) n ≡ min (g - i) (suc n)
+      go true e h = omega (arith, ltb-true)
+      go false e h = omega (arith, ltb-false)
 
--- 4 grants in each 17 samples
-pub slow : List (Input ℕ)
-slow = inputs 0 (times 4 (period 4 13))
+  in-window : (i : ℕ) → count (first-of p g) i p ≡ g
+  unfolding count first-of
+  in-window zero = omega (arith, in-first 0 p (omega arith))
+  in-window (suc i) =
+      let f = first-of p g in
+      let again : f (i + p) ≡ f i = rw add-mod-right in
+      let e = rw (add-one, again) at (count-add f i p 1) in
+      omega (arith, in-window i)
 
--- 3 grants in each 16 samples
-pub scarce : List (Input ℕ)
-scarce = inputs 0 (times 2 (period 3 13))
+  in-many : (k i : ℕ) → count (first-of p g) i (k * p) ≡ k * g
+  unfolding count
+  in-many zero i = rw (zero-mul, zero-mul)
+  in-many (suc k) i =
+      let e = count-add (first-of p g) i (k * p) p in
+      rw (suc-mul, suc-mul) (omega (arith, in-many k i, in-window (i + k * p)))
 
--- a test that each tail of a list passes
-tails : (List (Input ℕ) → Bool) → List (Input ℕ) → Bool
-tails f [] = f []
-tails f (x ∷ xs) = f (x ∷ xs) && tails f xs
+-- The inputs with the grants and words that two tests tell, from sample number i on: a word is its sample's number.
+module _ (f h : ℕ → Bool) where
+  inputs : ℕ → ℕ → List (Input ℕ)
+  inputs i zero = []
+  inputs i (suc n) = record { grant = f i; word = cond (h i) (some i) none } ∷ inputs (suc i) n
 
-both-true : (a b : Bool) → (a && b) ≡ true → (a ≡ true) × (b ≡ true)
-both-true true true e = (refl, refl)
-both-true true false e = (refl, e)
-both-true false b e = absurd (false≢true e)
+  inputs-grants : (i n : ℕ) → grants (inputs i n) ≡ count f i n
+  unfolding inputs grants count
+  inputs-grants i zero = refl
+  inputs-grants i (suc n) = omega (arith, inputs-grants (suc i) n)
 
-each-tail : (f : List (Input ℕ) → Bool) (xs : List (Input ℕ)) → tails f xs ≡ true → (k : ℕ) → f (drop k xs) ≡ true
-unfolding tails
-each-tail f [] e zero = e
-each-tail f [] e (suc k) = e
-each-tail f (x ∷ xs) e zero = both-true (f (x ∷ xs)) (tails f xs) e .0
-each-tail f (x ∷ xs) e (suc k) = each-tail f xs (both-true (f (x ∷ xs)) (tails f xs) e .1) k
+  inputs-words : (i n : ℕ) → length (words (inputs i n)) ≡ count h i n
+  unfolding inputs words count
+  inputs-words i zero = refl
+  inputs-words i (suc n) = go (h i) (inputs-words (suc i) n)
+    where
+      go : (b : Bool) → length (words (inputs (suc i) n)) ≡ count h (suc i) n
+          → length (words (record { grant = f i; word = cond b (some i) none } ∷ inputs (suc i) n)) ≡ cond b 1 0 + count h (suc i) n
+      go true e = omega arith
+      go false e = omega arith
 
--- each w consecutive samples hold at least g grants
-unfoldable pub Dense : ℕ → ℕ → List (Input ℕ) → Type 0
-Dense w g xs = (k : ℕ) → k + w ≤ length xs → g ≤ grants (take w (drop k xs))
+  inputs-length : (i n : ℕ) → length (inputs i n) ≡ n
+  unfolding inputs
+  inputs-length i zero = refl
+  inputs-length i (suc n) = ap suc (inputs-length (suc i) n)
 
-is-dense : ℕ → ℕ → List (Input ℕ) → Bool
-is-dense w g xs = ltb (length xs) w || leb g (grants (take w xs))
+  inputs-window : (m k i n : ℕ) → take m (drop k (inputs i n)) ≡ inputs (i + k) (min m (n - k))
+  unfolding inputs
+  inputs-window zero zero i n = rw zero-min
+  inputs-window (suc m) zero i zero = rw (zero-sub, min-zero)
+  inputs-window (suc m) zero i (suc n) = rw (add-zero, sub-zero, suc-min-suc, rw (add-zero, sub-zero) at (inputs-window m zero (suc i) n))
+  inputs-window m (suc k) i zero = rw (zero-sub, min-zero) (take-nil m)
+  inputs-window m (suc k) i (suc n) = rw (add-suc, suc-sub-suc) (rw suc-add at (inputs-window m k (suc i) n))
 
-is-spaced : ℕ → List (Input ℕ) → Bool
-is-spaced s xs = leb (length (words (take s xs))) 1
+-- No more words leave than there are grants, and a queue holds no more than its depth.
+starves : (d : ℕ) (xs : List (Input ℕ)) → grants xs + d < length (words xs) → 1 ≤ after d xs .lost
+unfolding start
+starves d xs h = go (after d xs .lost) refl
+  where
+    go : (n : ℕ) → after d xs .lost ≡ n → 1 ≤ n
+    go zero e = absurd (omega (arith, flow d start xs .most, queue-law d xs .0, simp length-append at (ap length (queue-law d xs .1 e))))
+    go (suc n) e = omega arith
 
-dense : (w g : ℕ) (xs : List (Input ℕ)) → tails (is-dense w g) xs ≡ true → Dense w g xs
-unfolding Dense is-dense
-dense w g xs e k h =
-    let t = each-tail (is-dense w g) xs e k in
-    leb-true g (grants (take w (drop k xs))) (rw (le-ltb (length (drop k xs)) w (rw length-drop (omega arith))) at t)
+-- Inputs with at least g grants in each w samples and words at least s samples apart, at which a queue of depth d loses a word.
+pub record Starved (d s w g : ℕ) : Type 0 where
+  pub inputs : List (Input ℕ)
+  pub dense : (k : ℕ) → k + w ≤ length inputs → g ≤ grants (take w (drop k inputs))
+  pub spaced : Spaced s inputs
+  pub loses : 1 ≤ after d inputs .lost
 
-spaced : (s : ℕ) (xs : List (Input ℕ)) → tails (is-spaced s) xs ≡ true → Spaced s xs
-unfolding is-spaced
-spaced s xs e k = leb-true (length (words (take s (drop k xs)))) 1 (each-tail (is-spaced s) xs e k)
+starved : (d s w g : ℕ) → 1 ≤ s → g * s < w → Starved d s w g
+starved d s w g s1 less =
+    let f = first-of w g in
+    let h = first-of s 1 in
+    let n : ℕ = suc d * s * w in
+    let few : g ≤ w = omega (arith, mul-le-mul-left g s1) in
+    let swap : n ≡ suc d * w * s = omega arith in
+    let came : count h 0 n ≡ suc d * w * 1 = rw swap (in-many s 1 s1 (suc d * w) 0) in
+    let went : count f 0 n ≡ suc d * s * g = in-many w g few (suc d * s) 0 in
+    record {
+      inputs = inputs f h 0 n;
+      dense =
+          λ k le.
+          let e : min w (n - k) ≡ w = omega (arith, inputs-length f h 0 n) in
+          rw (inputs-window, e, inputs-grants) (omega (arith, in-window w g few (0 + k)));
+      spaced =
+          λ k.
+          let m : ℕ = min s (n - k) in
+          let e : m + (s - m) ≡ s = omega arith in
+          rw (inputs-window, inputs-words) (omega (arith, in-window s 1 s1 (0 + k), rw e at (count-add h (0 + k) m (s - m))));
+      loses = starves d (inputs f h 0 n) (omega (arith, inputs-grants f h 0 n, inputs-words f h 0 n, mul-le-mul-left (suc d) less));
+    }
 
--- (a) The premises hold, none is lost, four words have left and four are held.
-pub plenty-granted : Granted 4 4 plenty
-unfolding Dense tails is-dense plenty inputs times period grants
-plenty-granted = dense 16 4 plenty refl
+-- With windows one sample longer, and with one grant fewer in each.
+pub slow : (d s : ℕ) → 1 ≤ s → Starved d s (d * s + 1) d
+slow d s s1 = starved d s (d * s + 1) d s1 (omega arith)
 
-pub plenty-spaced : Spaced 4 plenty
-unfolding tails is-spaced plenty inputs times period words
-plenty-spaced = spaced 4 plenty refl
-
-pub plenty-queue : after 4 plenty ≡ record { left = 3 ∷ 7 ∷ 11 ∷ 15 ∷ []; held = 19 ∷ 23 ∷ 27 ∷ 31 ∷ []; lost = 0 }
-unfolding plenty inputs times period start leave arrive sample from
-plenty-queue = refl
-
--- (b) With four grants in each 17 samples a word is lost.
-pub slow-dense : Dense 17 4 slow
-unfolding tails is-dense slow inputs times period grants
-slow-dense = dense 17 4 slow refl
-
-pub slow-spaced : Spaced 4 slow
-unfolding tails is-spaced slow inputs times period words
-slow-spaced = spaced 4 slow refl
-
-pub slow-loses : after 4 slow .lost ≡ 1
-unfolding slow inputs times period start leave arrive sample from
-slow-loses = refl
-
--- (c) With three grants in each 16 samples a word is lost.
-pub scarce-dense : Dense 16 3 scarce
-unfolding tails is-dense scarce inputs times period grants
-scarce-dense = dense 16 3 scarce refl
-
-pub scarce-spaced : Spaced 4 scarce
-unfolding tails is-spaced scarce inputs times period words
-scarce-spaced = spaced 4 scarce refl
-
-pub scarce-loses : after 4 scarce .lost ≡ 1
-unfolding scarce inputs times period start leave arrive sample from
-scarce-loses = refl
+pub scarce : (d s : ℕ) → 1 ≤ s → Starved (suc d) s (suc d * s) d
+scarce d s s1 = starved (suc d) s (suc d * s) d s1 (omega arith)

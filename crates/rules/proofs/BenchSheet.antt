@@ -5,15 +5,10 @@ use mathlib.Core.List.{List, [], _∷_, _++_, map}
 use Prim.Native.Nat.{ℕ, zero, suc, _+_, _*_}
 use lib.ListN.{getD, drop, replicate}
 use Rattle.rules.specs.declared.Device.{Device}
-use Rattle.rules.specs.State.{fresh, raised, lowered, with-cr, with-ris, with-ier, with-cwstrt, with-cwsize, with-registers, with-pins, with-syncs, with-frame, with-rate, with-partial, raise, clear-capture, close-frame, with-capture}
-use Rattle.rules.specs.Capture.{no-word, working-edge, remember-pins, blanking, vsync-flag, line-flag, sync-flags, frame-captured, end-of, frame-end, rate-period, next-rate, open-frame, start-of, frame-start, line-begins, next-pixel, within, in-window, captured, width, lane, per-word, packed-bits, pack, pixel, pixel-in, pixel-edge, at-edge, remember, capture-sample}
-use Rattle.rules.specs.Queue.{pop, push, bytes, room, stored, lands, landed, grant, discard, count-word, hold, lose-frame, overrun, full-word, complete}
-use Rattle.rules.specs.WellFormed.{all-zero, bad-fifo, unused-bits, full-partial, excluded, bad-flags, active-disabled, partial-outside, bad-rate, above-samples, bad-place, bad-counts, malformed}
-use Rattle.rules.specs.RegisterCalls.{status, masked, value, read-refusal, read, changes-setup, write-refusal, enabling, disabling, switch-enable, capture-rises, switch-capture, write-control, clear-flags, write-register, write-at, write, rearmed, rearm}
-use Rattle.samples.specs.Samples.{bad-sample, any-bad}
-use Rattle.rules.specs.Run.{count-sample, after-grant, step, steps, run-refusal, run}
-use Rattle.registers.specs.Control.{unsupported}
-use Rattle.registers.specs.Map.{register-at}
+use Rattle.rules.specs.State.{fresh}
+use Rattle.rules.specs.RegisterCalls.{status, write}
+use Rattle.rules.specs.Run.{run}
+use Rattle.rules.proofs.EveryRule.{every-rule}
 
 -- A register write: offset and value.
 pub record Write : Type 0 where
@@ -71,11 +66,11 @@ made c =
     let q = written (record { numbers = p .numbers ++ (r .number ∷ []); device = r .device }) (c .after) in
     leaves
     (q .numbers)
-    (words (q .device .counts .landed) (r .memory))
-    (q .device .fifo .held)
-    (q .device .counts .discarded)
-    (q .device .capture .registers .cr)
-    (q .device .capture .registers .ris)
+    (words (q .device .core .output .counts .landed) (r .memory))
+    (q .device .core .output .held)
+    (q .device .core .output .counts .discarded)
+    (q .device .core .capture .registers .cr)
+    (q .device .core .capture .registers .ris)
     (status (q .device))
 
 -- The offsets, and trace T.
@@ -171,9 +166,9 @@ mistakes =
 
 -- Rule 5 with CM 1, which only the state shows: FCRC 1, and the rate counter once a frame has started.
 unfoldable pub snapshot-rate : ℕ
-snapshot-rate = run (write fresh CR 0x49E3 .device) [] 0 (edges (blank ∷ 1 ∷ [])) .device .capture .rate
+snapshot-rate = run (write fresh CR 0x49E3 .device) [] 0 (edges (blank ∷ 1 ∷ [])) .device .core .capture .rate
 
 -- Every case leaves what its row says, and with CM 1 the rate counter stays.
 pub bench-sheet : (map made (starred ++ mistakes) ≡ map (λ c. c .sheet) (starred ++ mistakes)) × (snapshot-rate ≡ 0)
-unfolding snapshot-rate written words made starred mistakes unsupported register-at fresh raised lowered with-cr with-ris with-ier with-cwstrt with-cwsize with-registers with-pins with-syncs with-frame with-rate with-partial raise clear-capture close-frame with-capture no-word working-edge remember-pins blanking vsync-flag line-flag sync-flags frame-captured end-of frame-end rate-period next-rate open-frame start-of frame-start line-begins next-pixel within in-window captured width lane per-word packed-bits pack pixel pixel-in pixel-edge at-edge remember capture-sample pop push bytes room stored lands landed grant discard count-word hold lose-frame overrun full-word complete all-zero bad-fifo unused-bits full-partial excluded bad-flags active-disabled partial-outside bad-rate above-samples bad-place bad-counts malformed status masked read-refusal read changes-setup write-refusal enabling disabling switch-enable capture-rises switch-capture write-control clear-flags write-register write-at write rearmed rearm count-sample after-grant step steps bad-sample any-bad run-refusal run
+unfolding snapshot-rate written words made starred mistakes every-rule
 bench-sheet = (refl, refl)

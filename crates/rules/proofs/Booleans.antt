@@ -32,16 +32,6 @@ pub not-is-true : (a : Bool) → a ≡ false → not a ≡ true
 not-is-true true e = absurd (true≢false e)
 not-is-true false e = refl
 
--- What holds of both arms, each under its test, holds of the choice.
-pub by-cond {ℓ} : {A : Type ℓ} (P : A → Type 0) (b : Bool) (x y : A) → (b ≡ true → P x) → (b ≡ false → P y) → P (cond b x y)
-by-cond P true x y f g = f refl
-by-cond P false x y f g = g refl
-
--- The same where neither arm needs its test.
-pub either {ℓ} : {A : Type ℓ} {x y : A} (P : A → Type 0) (b : Bool) → P x → P y → P (cond b x y)
-either P true f g = f
-either P false f g = g
-
 -- None of some tests holds.
 abbrev pub None : List Bool → Type 0
 None [] = Unit {0}

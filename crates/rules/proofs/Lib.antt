@@ -1,3 +1,4 @@
+pub mod EveryRule
 pub mod Booleans
 pub mod WellFormed
 pub mod BenchSheet

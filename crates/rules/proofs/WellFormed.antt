@@ -1,26 +1,30 @@
 -- A device that is not malformed, as facts, and the way back. The facts are in two parts, as the rules are: the capture state, given a
--- bound on its lines and pixels, and the queue around it. Assumes nothing.
+-- bound on its lines and pixels, and FIFO, place and counts. Assumes nothing.
 use mathlib.Core.Bool.{Bool, true, false, not}
 use mathlib.Core.List.{List, [], _∷_}
 use mathlib.Core.Path.{_≡_}
-use Prim.Native.Nat.{ℕ, _+_, _≤_, _<_}
+use Prim.Native.Nat.{ℕ, _≤_, _<_}
 use native.Mathlib.Omega.{arith}
 use lib.Dec.{ltb}
 use lib.ListN.{drop}
 use borrow.Author.Tests.{ltb-true, ltb-false, leb-false, eqb-true, le-ltb, lt-leb, eq-eqb, lt-ltb, not-true, not-false}
-use Rattle.registers.specs.Control.{enable}
+use Rattle.registers.specs.Control.{edm, enable}
 use Rattle.rules.specs.declared.Capture.{Capture}
 use Rattle.rules.specs.declared.Device.{Device}
-use Rattle.rules.specs.State.{depth}
-use Rattle.rules.specs.Capture.{per-word, rate-period}
-use Rattle.rules.specs.WellFormed.{all-zero, is-open, is-taken, lines, pixels, bad-fifo, unused-bits, full-partial, excluded, bad-flags, active-disabled, partial-outside, bad-rate, above-samples, bad-place, bad-counts, malformed, any, clauses}
+use Rattle.packing.specs.Packing.{per-word}
+use Rattle.output.specs.Output.{depth}
+use Rattle.output.specs.WellFormed.{all-zero, bad-fifo, bad-place, bad-counts}
+use Rattle.output.proofs.WellFormed.{OutputOk}
+use Rattle.rules.specs.State.{output-of, is-open, is-taken}
+use Rattle.rules.specs.Capture.{rate-period}
+use Rattle.rules.specs.WellFormed.{lines, pixels, unused-bits, full-partial, excluded, bad-flags, active-disabled, partial-outside, bad-rate, above-samples, malformed, any, clauses}
 use Rattle.bits.proofs.Booleans.{or-false}
 use Rattle.rules.proofs.Booleans.{both-false, and-false, imp-and-false, not-is-false, not-is-true, None, none, none-any}
 
 -- The capture state's share, with lines and pixels at most n.
 pub record CaptureOk (n : ℕ) (s : Capture) : Type 0 where
   pub unused : unused-bits s ≡ false
-  pub short : s .partial .count < per-word (s .registers .cr)
+  pub short : s .partial .count < per-word (edm (s .registers .cr))
   pub allowed : excluded (s .registers) ≡ false
   pub ris : s .registers .ris ≤ 31
   pub ier : s .registers .ier ≤ 31
@@ -30,34 +34,26 @@ pub record CaptureOk (n : ℕ) (s : Capture) : Type 0 where
   pub lines : lines (s .frame) ≤ n
   pub pixels : pixels (s .frame) ≤ n
 
--- The queue's share, given ENABLE.
-pub record QueueOk (enabled : Bool) (d : Device) : Type 0 where
-  pub held : d .fifo .held ≤ depth
-  pub clear : all-zero (drop (d .fifo .held) (d .fifo .slots)) ≡ true
-  pub idle : enabled ≡ false → d .fifo .held ≡ 0
-  pub completed : d .counts .completed ≤ d .counts .samples
-  pub place : d .place ≤ d .counts .landed
-  pub equation : d .counts .completed ≡ d .counts .landed + d .fifo .held + d .counts .discarded
-
+-- With the share of FIFO, place and counts.
 pub record WellFormed (d : Device) : Type 0 where
-  pub capture : CaptureOk (d .counts .samples) (d .capture)
-  pub queue : QueueOk (enable (d .capture .registers .cr)) d
+  pub capture : CaptureOk (d .core .output .counts .samples) (d .core .capture)
+  pub output : OutputOk (enable (d .core .capture .registers .cr)) (output-of d)
 
 -- What must not be while ENABLE is 0.
 idles : Device → List Bool
-idles d = is-open (d .capture .frame) ∷ ltb 0 (d .fifo .held) ∷ ltb 0 (d .capture .partial .count) ∷ ltb 0 (d .capture .rate) ∷ []
+idles d = is-open (d .core .capture .frame) ∷ ltb 0 (d .core .output .held) ∷ ltb 0 (d .core .capture .partial .count) ∷ ltb 0 (d .core .capture .rate) ∷ []
 
 above : Device → List Bool
 above d =
-    ltb (d .counts .samples) (lines (d .capture .frame)) ∷
-    ltb (d .counts .samples) (pixels (d .capture .frame)) ∷
-    ltb (d .counts .samples) (d .counts .completed) ∷
+    ltb (d .core .output .counts .samples) (lines (d .core .capture .frame)) ∷
+    ltb (d .core .output .counts .samples) (pixels (d .core .capture .frame)) ∷
+    ltb (d .core .output .counts .samples) (d .core .output .counts .completed) ∷
     []
 
-idle : (d : Device) → active-disabled d ≡ false → enable (d .capture .registers .cr) ≡ false → None (idles d)
+idle : (d : Device) → active-disabled d ≡ false → enable (d .core .capture .registers .cr) ≡ false → None (idles d)
 unfolding active-disabled idles
 idle d e off =
-    none (idles d) (and-false (not (enable (d .capture .registers .cr))) (any (idles d)) e (not-is-true _ off))
+    none (idles d) (and-false (not (enable (d .core .capture .registers .cr))) (any (idles d)) e (not-is-true _ off))
 
 is-zero : (n : ℕ) → ltb 0 n ≡ false → n ≡ 0
 is-zero n e = let h : n ≤ 0 = ltb-false 0 n e in omega arith
@@ -66,8 +62,8 @@ pub facts : (d : Device) → malformed d ≡ false → WellFormed d
 unfolding malformed bad-fifo full-partial bad-flags partial-outside bad-rate above-samples bad-place bad-counts idles above
 facts d e =
     let n = none (clauses d) e in
-    let fifo = or-false (ltb depth (d .fifo .held)) (not (all-zero (drop (d .fifo .held) (d .fifo .slots)))) (n .0) in
-    let flags = or-false (ltb 31 (d .capture .registers .ris)) (ltb 31 (d .capture .registers .ier)) (n .1 .1 .1 .1 .0) in
+    let fifo = or-false (ltb depth (d .core .output .held)) (not (all-zero (drop (d .core .output .held) (d .slots)))) (n .0) in
+    let flags = or-false (ltb 31 (d .core .capture .registers .ris)) (ltb 31 (d .core .capture .registers .ier)) (n .1 .1 .1 .1 .0) in
     let off = idle d (n .1 .1 .1 .1 .1 .0) in
     let counted = none (above d) (n .1 .1 .1 .1 .1 .1 .1 .1 .0) in
     record {
@@ -84,7 +80,7 @@ facts d e =
             lines = ltb-false _ _ (counted .0);
             pixels = ltb-false _ _ (counted .1 .0);
           };
-      queue =
+      output =
           record {
             held = ltb-false _ _ (fifo .0);
             clear = not-false _ (fifo .1);
@@ -102,8 +98,8 @@ pub well-formed : (d : Device) → WellFormed d → malformed d ≡ false
 unfolding malformed bad-fifo full-partial bad-flags active-disabled partial-outside bad-rate above-samples bad-place bad-counts idles above
 well-formed d w =
     let c = w .capture in
-    let q = w .queue in
-    let off : enable (d .capture .registers .cr) ≡ false → None (idles d) =
+    let q = w .output in
+    let off : enable (d .core .capture .registers .cr) ≡ false → None (idles d) =
     λ x. (c .idle x .0, (zero-test _ (q .idle x), (zero-test _ (c .idle x .1), (zero-test _ (c .idle x .2), tt)))) in
     let counted = none-any (above d) (le-ltb _ _ (c .lines), (le-ltb _ _ (c .pixels), (le-ltb _ _ (q .completed), tt))) in
     let last : None (drop 8 (clauses d)) = (counted, (le-ltb _ _ (q .place), (not-is-false _ (eq-eqb _ _ (q .equation)), tt))) in

@@ -2,11 +2,12 @@
 -- no word or a full word. Each rule is a definition of its own, in the paper's order; the manual's section stands beside its number.
 use mathlib.Core.Bool.{Bool, cond, not, _&&_, _||_, Bool·beq}
 use mathlib.Core.Option.{Option, none, some}
-use Prim.Native.Nat.{ℕ, _+_, _-_, _*_, _%_, _^_}
+use Prim.Native.Nat.{ℕ, _+_, _-_, _%_}
 use lib.Dec.{eqb, ltb, leb}
 use Rattle.registers.specs.Control.{capture, snapshot, crop, pckpol, hspol, vspol, fcrc, edm, enable}
 use Rattle.registers.specs.Window.{vst, hoffcnt, vline, capcnt}
 use Rattle.samples.specs.Samples.{pixel-data, hsync-pin, vsync-pin, clock-pin}
+use Rattle.packing.specs.Packing.{per-word, joined}
 use Rattle.rules.specs.declared.Syncs.{Syncs}
 use Rattle.rules.specs.declared.Scan.{Scan}
 use Rattle.rules.specs.declared.Frame.{Frame}
@@ -22,11 +23,14 @@ pub record Captured : Type 0 where
 unfoldable pub no-word : Capture → Captured
 no-word s = record { state = s; word = none }
 
--- Rule 2 (004, 32.5.1 PCKPOL): the clock fell (PCKPOL 0) or rose (PCKPOL 1) since the last sample, with ENABLE 1.
+-- Rule 2 (004, 32.5.1 PCKPOL): the clock fell (PCKPOL 0) or rose (PCKPOL 1) since the last sample.
 unfoldable pub working-edge : Capture → ℕ → Bool
 working-edge s w =
-    enable (s .registers .cr) &&
     cond (pckpol (s .registers .cr)) (not (s .pins .clock) && clock-pin w) (s .pins .clock && not (clock-pin w))
+
+-- Rule 2: ENABLE is 1.
+abbrev pub enabled : Capture → Bool
+enabled s = enable (s .registers .cr)
 
 -- Rule 2: the sample's levels are remembered.
 unfoldable pub remember-pins : ℕ → Capture → Capture
@@ -36,6 +40,10 @@ remember-pins w s = with-pins (record { hsync = hsync-pin w; vsync = vsync-pin w
 unfoldable pub blanking : Capture → ℕ → Syncs
 blanking s w =
     record { hsync = Bool·beq (hsync-pin w) (hspol (s .registers .cr)); vsync = Bool·beq (vsync-pin w) (vspol (s .registers .cr)) }
+
+-- A sync blanks.
+abbrev pub any-blanks : Syncs → Bool
+any-blanks now = now .hsync || now .vsync
 
 -- Rule 3 (004, 32.5.3 VSYNC_RIS and LINE_RIS): a sync that did not blank at the last working edge, `s .syncs`, and blanks now raises its flag.
 unfoldable pub vsync-flag : Capture → Syncs → Capture
@@ -66,16 +74,22 @@ rate-period cr = cond (eqb (fcrc cr) 0) 1 (cond (eqb (fcrc cr) 1) 2 4)
 unfoldable pub next-rate : Capture → ℕ
 next-rate s = cond (snapshot (s .registers .cr)) (s .rate) ((s .rate + 1) % rate-period (s .registers .cr))
 
+-- Rule 5: the frame is taken if CM is 1 or the rate counter is 0.
+unfoldable pub takes : Capture → Bool
+takes s = snapshot (s .registers .cr) || eqb (s .rate) 0
+
 unfoldable pub open-frame : Capture → Capture
-open-frame s =
-    with-rate (next-rate s)
-    (with-frame (Open (snapshot (s .registers .cr) || eqb (s .rate) 0) (record { lines = 0; pixels = 0 })) s)
+open-frame s = with-rate (next-rate s) (with-frame (Open (takes s) (record { lines = 0; pixels = 0 })) s)
+
+-- Rule 5: CAPTURE is 1, and VSYNC blanked at the last working edge and does not now.
+unfoldable pub starts : Capture → Syncs → Bool
+starts s now = capture (s .registers .cr) && s .syncs .vsync && not (now .vsync)
 
 unfoldable pub start-of : Frame → Syncs → Capture → Capture
-start-of Closed now s = cond (capture (s .registers .cr) && s .syncs .vsync && not (now .vsync)) (open-frame s) s
+start-of Closed now s = cond (starts s now) (open-frame s) s
 start-of (Open taken f) now s = s
 
--- Rule 5 (004, 32.3.6, 32.3.7): with no frame open and CAPTURE 1, a frame starts where VSYNC blanked at the last working edge and does not now.
+-- Rule 5 (004, 32.3.6, 32.3.7): a frame starts where none is open.
 unfoldable pub frame-start : Capture → Syncs → Capture
 frame-start s now = start-of (s .frame) now s
 
@@ -102,52 +116,43 @@ in-window s f =
 unfoldable pub captured : Capture → Bool → Scan → Bool
 captured s taken f = taken && (not (crop (s .registers .cr)) || in-window s f)
 
--- Rule 8 (004, tables 262 to 265): EDM 0, 1, 2, 3 keep 8, 10, 12, 14 data bits.
-unfoldable pub width : ℕ → ℕ
-width cr = 8 + 2 * edm cr
-
--- Each in 8 bits, four to a word (EDM 0), or in 16 bits, two to a word.
-unfoldable pub lane : ℕ → ℕ
-lane cr = cond (eqb (edm cr) 0) 8 16
-
-unfoldable pub per-word : ℕ → ℕ
-per-word cr = cond (eqb (edm cr) 0) 4 2
-
--- The partial word's bits with the sample's datum above them: first lowest.
+-- Rule 8 (004, tables 262 to 265): the partial word's bits with a datum above them, as EDM packs them.
 unfoldable pub packed-bits : Capture → ℕ → ℕ
-packed-bits s w =
-    s .partial .bits + pixel-data w % 2 ^ width (s .registers .cr) * 2 ^ (lane (s .registers .cr) * s .partial .count)
+packed-bits s x = joined (edm (s .registers .cr)) (s .partial .count) (s .partial .bits) x
 
 -- Rule 8: the datum joins the partial word, which is then partial still, or full. Packing runs on across lines.
 unfoldable pub pack : Capture → ℕ → Captured
-pack s w =
-    cond (ltb (s .partial .count + 1) (per-word (s .registers .cr)))
-    (no-word (with-partial (record { count = s .partial .count + 1; bits = packed-bits s w }) s))
-    (record { state = with-partial no-partial s; word = some (packed-bits s w) })
+pack s x =
+    cond (ltb (s .partial .count + 1) (per-word (edm (s .registers .cr))))
+    (no-word (with-partial (record { count = s .partial .count + 1; bits = packed-bits s x }) s))
+    (record { state = with-partial no-partial s; word = some (packed-bits s x) })
 
 -- Rules 6 to 8 at a pixel of an open frame, taken or not: its place, whether it is captured, and the packing.
 unfoldable pub pixel : Capture → Bool → Scan → ℕ → Captured
-pixel s taken f w =
+pixel s taken f x =
     cond (captured s taken (next-pixel s f))
-    (pack (with-frame (Open taken (next-pixel s f)) s) w)
+    (pack (with-frame (Open taken (next-pixel s f)) s) x)
     (no-word (with-frame (Open taken (next-pixel s f)) s))
 
 unfoldable pub pixel-in : Frame → Capture → Syncs → ℕ → Captured
-pixel-in Closed s now w = no-word s
-pixel-in (Open taken f) s now w = cond (now .hsync || now .vsync) (no-word s) (pixel s taken f w)
+pixel-in Closed s now x = no-word s
+pixel-in (Open taken f) s now x = cond (any-blanks now) (no-word s) (pixel s taken f x)
 
 -- Rule 6: with both syncs not blanking in an open frame, the edge carries a pixel.
 unfoldable pub pixel-edge : Capture → Syncs → ℕ → Captured
-pixel-edge s now w = pixel-in (s .frame) s now w
+pixel-edge s now x = pixel-in (s .frame) s now x
 
--- Rules 3 to 8 at a working edge. Whether each sync blanks is remembered last: until then `syncs` is that of the last working edge.
+-- Whether each sync blanks is remembered last: until then `syncs` is that of the last working edge.
+unfoldable pub remember-syncs : Syncs → Captured → Captured
+remember-syncs now c = record { state = with-syncs now (c .state); word = c .word }
+
+-- Rules 3 to 8 at a working edge.
 unfoldable pub at-edge : Capture → Syncs → ℕ → Captured
-at-edge s now w = pixel-edge (frame-start (frame-end (sync-flags s now) now) now) now w
+at-edge s now x = remember-syncs now (pixel-edge (frame-start (frame-end (sync-flags s now) now) now) now x)
 
-unfoldable pub remember : Syncs → ℕ → Captured → Captured
-remember now w c = record { state = remember-pins w (with-syncs now (c .state)); word = c .word }
-
--- Rules 2 to 8.
+-- Rules 2 to 8: without a working edge, or with ENABLE 0, the sample is over. No rule from 3 on reads the levels that rule 2 remembers.
 unfoldable pub capture-sample : Capture → ℕ → Captured
 capture-sample s w =
-    cond (working-edge s w) (remember (blanking s w) w (at-edge s (blanking s w) w)) (no-word (remember-pins w s))
+    cond (working-edge s w && enabled s)
+    (at-edge (remember-pins w s) (blanking s w) (pixel-data w))
+    (no-word (remember-pins w s))

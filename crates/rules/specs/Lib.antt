@@ -1,6 +1,5 @@
 pub mod State
 pub mod Capture
-pub mod Queue
 pub mod Answers
 pub mod WellFormed
 pub mod RegisterCalls

@@ -17,11 +17,11 @@ use Rattle.rules.specs.declared.Frame.the-variants.{Closed}
 use Rattle.rules.specs.declared.Registers.{Registers}
 use Rattle.rules.specs.declared.Capture.{Capture}
 use Rattle.rules.specs.declared.Device.{Device}
-use Rattle.rules.specs.State.{not-blanking, close-frame, with-cr, with-ris, with-ier, with-cwstrt, with-cwsize, with-registers, with-syncs, with-frame, with-rate, with-capture}
-use Rattle.rules.specs.Queue.{discard}
+use Rattle.output.specs.Output.{with-place, discard}
+use Rattle.rules.specs.State.{device, capture-of, output-of, is-open, not-blanking, close-frame, with-cr, with-ris, with-ier, with-cwstrt, with-cwsize, with-registers, with-syncs, with-frame, with-rate}
 use Rattle.refusals.specs.Refusals.{Test, _⇒_, first, Answer, answer}
 use Rattle.rules.specs.Answers.{Changed, change}
-use Rattle.rules.specs.WellFormed.{malformed, is-open}
+use Rattle.rules.specs.WellFormed.{malformed}
 
 -- n where a test holds, else 0.
 abbrev pub when : Bool → ℕ → ℕ
@@ -30,9 +30,9 @@ when t n = cond t n 0
 -- SR (004, 32.5.2): HSYNC and VSYNC while that pin of the last sample blanks, FNE while a word is held.
 unfoldable pub status : Device → ℕ
 status d =
-    when (Bool·beq (d .capture .pins .hsync) (hspol (d .capture .registers .cr))) 1 +
-    when (Bool·beq (d .capture .pins .vsync) (vspol (d .capture .registers .cr))) 2 +
-    when (ltb 0 (d .fifo .held)) 4
+    when (Bool·beq (d .core .capture .pins .hsync) (hspol (d .core .capture .registers .cr))) 1 +
+    when (Bool·beq (d .core .capture .pins .vsync) (vspol (d .core .capture .registers .cr))) 2 +
+    when (ltb 0 (d .core .output .held)) 4
 
 -- MIS (004, 32.5.5): the bits that are 1 in both RIS and IER.
 unfoldable pub masked : Registers → ℕ
@@ -40,14 +40,14 @@ masked r = bitAnd (r .ris) (r .ier)
 
 -- What a register reads as. ICR is not read.
 unfoldable pub value : Device → Register → ℕ
-value d Control = d .capture .registers .cr
+value d Control = d .core .capture .registers .cr
 value d Status = status d
-value d RawStatus = d .capture .registers .ris
-value d InterruptEnable = d .capture .registers .ier
-value d MaskedStatus = masked (d .capture .registers)
+value d RawStatus = d .core .capture .registers .ris
+value d InterruptEnable = d .core .capture .registers .ier
+value d MaskedStatus = masked (d .core .capture .registers)
 value d InterruptClear = 0
-value d WindowStart = d .capture .registers .cwstrt
-value d WindowSize = d .capture .registers .cwsize
+value d WindowStart = d .core .capture .registers .cwstrt
+value d WindowSize = d .core .capture .registers .cwsize
 
 -- Refusal 2, of what stands at an offset; refusal 3, of a read and of a write.
 abbrev pub missing : Found → Bool
@@ -110,7 +110,7 @@ abbrev pub register-tests : ℕ → Found → ℕ → List Test
 register-tests cr r v = missing r ⇒ 2 ∷ unwritable r ⇒ 3 ∷ reserved-at r v ⇒ 4 ∷ unsupported-at r v ⇒ 5 ∷ fixed-at cr r v ⇒ 6 ∷ []
 
 unfoldable pub write-refusal : Device → ℕ → ℕ → ℕ
-write-refusal d offset v = first (malformed d ⇒ 1 ∷ register-tests (d .capture .registers .cr) (register-at offset) v)
+write-refusal d offset v = first (malformed d ⇒ 1 ∷ register-tests (d .core .capture .registers .cr) (register-at offset) v)
 
 -- Writing CR, ENABLE 0 to 1: remembered syncs become "not blanking", no frame is open, the rate counter is 0.
 unfoldable pub enabling : Capture → Capture
@@ -159,7 +159,8 @@ disables cr r v = is-control r && enable cr && not (enable v)
 unfoldable pub write-at : Device → Found → ℕ → Device
 write-at d Nothing v = d
 write-at d (At r) v =
-    with-capture (write-register r v (d .capture)) (cond (disables (d .capture .registers .cr) r v) (discard 0 d) d)
+    device (write-register r v (capture-of d))
+    (cond (disables (d .core .capture .registers .cr) r v) (discard 0 (output-of d)) (output-of d))
 
 -- A register write: refusals 1 to 6 in order, or its effect.
 unfoldable pub write : Device → ℕ → ℕ → Changed
@@ -167,11 +168,11 @@ write d offset v = change (write-refusal d offset v) d (write-at d (register-at 
 
 -- The interrupt line is up exactly if MIS is not 0 (004, 32.4). Refusal 1.
 unfoldable pub interrupt : Device → Answer Bool
-interrupt d = answer (first (malformed d ⇒ 1 ∷ [])) (not (eqb (masked (d .capture .registers)) 0))
+interrupt d = answer (first (malformed d ⇒ 1 ∷ [])) (not (eqb (masked (d .core .capture .registers)) 0))
 
 -- Re-arming sets the place to 0, and is accepted for every well-formed device. Refusal 1.
 unfoldable pub rearmed : Device → Device
-rearmed d = record { capture = d .capture; fifo = d .fifo; place = 0; counts = d .counts }
+rearmed d = device (capture-of d) (record { output = with-place 0 (d .core .output); slots = d .slots })
 
 unfoldable pub rearm : Device → Changed
 rearm d = change (first (malformed d ⇒ 1 ∷ [])) d (rearmed d)

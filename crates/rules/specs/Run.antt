@@ -5,29 +5,49 @@ use mathlib.Core.Option.{Option, none, some}
 use Prim.Native.Nat.{ℕ, _+_}
 use lib.Dec.{eqb, ltb}
 use lib.ListN.{length, take, drop}
-use Rattle.rules.specs.declared.Device.{Device}
-use Rattle.rules.specs.State.{with-capture}
-use Rattle.rules.specs.Capture.{capture-sample}
-use Rattle.rules.specs.Queue.{grant, Packed, Completed, complete}
+use Rattle.registers.specs.Control.{snapshot}
 use Rattle.refusals.specs.Refusals.{_⇒_, first, Answer, answer}
-use Rattle.samples.specs.Samples.{any-bad}
+use Rattle.samples.specs.Samples.{bus-grant, any-bad}
+use Rattle.output.specs.declared.Fate.{Fate}
+use Rattle.output.specs.declared.Fate.the-variants.{Held, Lost}
+use Rattle.output.specs.Output.{OutputState, count-sample, grant, offer, discard}
+use Rattle.rules.specs.declared.Capture.{Capture}
+use Rattle.rules.specs.declared.Device.{Device}
+use Rattle.rules.specs.State.{device, capture-of, output-of, raise, clear-capture, close-frame}
+use Rattle.rules.specs.Capture.{enabled, capture-sample}
 use Rattle.rules.specs.WellFormed.{malformed}
 
--- One more sample.
-unfoldable pub count-sample : Device → Device
-count-sample d =
-    record {
-      capture = d .capture;
-      fifo = d .fifo;
-      place = d .place;
-      counts =
-          record {
-            samples = d .counts .samples + 1;
-            completed = d .counts .completed;
-            landed = d .counts .landed;
-            discarded = d .counts .discarded;
-          };
-    }
+-- Whether a sample completed no word, completed one, with its value, or lost one.
+pub data Packed : Type 0 where
+  nothing : Packed
+  completed : ℕ → Packed
+  lost : Packed
+
+-- What rule 9 makes of a sample.
+pub record Completed : Type 0 where
+  pub device : Device
+  pub packed : Packed
+
+-- Rule 9 (004, 32.3.10, 32.3.7, 32.5.3 OVR_RIS): OVR rises, the frame closes without FRAME; with CM 1, CAPTURE becomes 0.
+unfoldable pub lose-frame : Capture → Capture
+lose-frame s = close-frame (cond (snapshot (s .registers .cr)) (clear-capture (raise 1 s)) (raise 1 s))
+
+-- Rule 9, by what became of the full word: it is held; or it is lost, and with it the held words and the frame.
+unfoldable pub after-word : Fate → ℕ → Capture → OutputState → Completed
+after-word Held v s x = record { device = device s x; packed = completed v }
+after-word Lost v s x = record { device = device (lose-frame s) (discard 1 x); packed = lost }
+
+-- Rule 9: with fewer than four held a full word is held, with four there is an overrun.
+unfoldable pub full-word : ℕ → Capture → OutputState → Completed
+full-word v s x = after-word (offer v x .fate) v s (offer v x .state)
+
+unfoldable pub complete : Option ℕ → Capture → OutputState → Completed
+complete none s x = record { device = device s x; packed = nothing }
+complete (some v) s x = full-word v s x
+
+-- Rules 2 to 9 after the grant.
+unfoldable pub after-grant : Capture → OutputState → ℕ → Completed
+after-grant s x w = complete (capture-sample s w .word) (capture-sample s w .state) x
 
 -- What a sample makes of device and frame buffer, with its two answers: the byte of the frame buffer at which a word landed, if one
 -- did, and whether no word was completed, one was, or one was lost.
@@ -37,15 +57,16 @@ pub record Stepped : Type 0 where
   pub landing : Option ℕ
   pub packed : Packed
 
--- Rules 2 to 9 after the grant.
-unfoldable pub after-grant : Device → ℕ → Completed
-after-grant d w = complete (capture-sample (d .capture) w .word) (with-capture (capture-sample (d .capture) w .state) d)
+-- One more sample.
+unfoldable pub counted : OutputState → OutputState
+counted x = record { output = count-sample (x .output); slots = x .slots }
 
 -- The nine rules in order: the grant (1), capture (2 to 8), the full word (9).
 unfoldable pub step : Device → List ℕ → ℕ → Stepped
 step d buffer w =
-    let g = grant (count-sample d) buffer w in
-    let c = after-grant (g .device) w in
+    let s = capture-of d in
+    let g = grant (bus-grant w) (enabled s) (counted (output-of d)) buffer in
+    let c = after-grant s (g .state) w in
     record { device = c .device; buffer = g .buffer; landing = g .landing; packed = c .packed }
 
 -- Device and frame buffer after some samples.
@@ -64,7 +85,7 @@ run-refusal d memory start samples =
     (malformed d ⇒ 1 ∷
     ltb (length memory) start ⇒ 9 ∷
     any-bad samples ⇒ 7 ∷
-    ltb 4294967295 (d .counts .samples + length samples) ⇒ 8 ∷
+    ltb 4294967295 (d .core .output .counts .samples + length samples) ⇒ 8 ∷
     [])
 
 -- The refusal number, 0 where the run is accepted, and device and memory after it.

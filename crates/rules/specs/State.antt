@@ -1,49 +1,57 @@
 -- Reset (document 01, "Registers"), and a state with one of its parts changed.
-use mathlib.Core.Bool.{false, cond}
+use mathlib.Core.Bool.{Bool, true, false, cond}
 use Prim.Native.Nat.{ℕ, _+_, _-_, _^_}
-use lib.ListN.{replicate}
 use Rattle.bits.specs.Bits.{bit}
+use Rattle.output.specs.Output.{OutputState, fresh-output}
 use Rattle.rules.specs.declared.Registers.{Registers}
 use Rattle.rules.specs.declared.Pins.{Pins}
 use Rattle.rules.specs.declared.Syncs.{Syncs}
 use Rattle.rules.specs.declared.Frame.{Frame}
-use Rattle.rules.specs.declared.Frame.the-variants.{Closed}
+use Rattle.rules.specs.declared.Frame.the-variants.{Closed, Open}
 use Rattle.rules.specs.declared.Partial.{Partial}
 use Rattle.rules.specs.declared.Capture.{Capture}
-use Rattle.rules.specs.declared.Fifo.{Fifo}
 use Rattle.rules.specs.declared.Device.{Device}
 
--- How many words the FIFO holds at most (the paper decides; 004, 32.3.10 has 8).
-abbrev pub depth : ℕ
-depth = 4
-
--- Syncs that are both not blanking, no partial word, and a FIFO that holds nothing.
+-- Syncs that are both not blanking, and no partial word.
 abbrev pub not-blanking : Syncs
 not-blanking = record { hsync = false; vsync = false }
 
 abbrev pub no-partial : Partial
 no-partial = record { count = 0; bits = 0 }
 
-abbrev pub empty : Fifo
-empty = record { slots = replicate depth 0; held = 0 }
+-- A device of a capture state, and of what rules 1 and 9 change; and these of a device.
+abbrev pub device : Capture → OutputState → Device
+device s x = record { core = record { capture = s; output = x .output }; slots = x .slots }
+
+abbrev pub capture-of : Device → Capture
+capture-of d = d .core .capture
+
+abbrev pub output-of : Device → OutputState
+output-of d = record { output = d .core .output; slots = d .slots }
 
 -- Reset: all registers 0, pins remembered as 0, syncs as not blanking, no frame open, all counts and places 0.
-unfoldable pub fresh : Device
-fresh =
+unfoldable pub fresh-capture : Capture
+fresh-capture =
     record {
-      capture =
-          record {
-            registers = record { cr = 0; ris = 0; ier = 0; cwstrt = 0; cwsize = 0 };
-            pins = record { hsync = false; vsync = false; clock = false };
-            syncs = not-blanking;
-            frame = Closed;
-            rate = 0;
-            partial = no-partial;
-          };
-      fifo = empty;
-      place = 0;
-      counts = record { samples = 0; completed = 0; landed = 0; discarded = 0 };
+      registers = record { cr = 0; ris = 0; ier = 0; cwstrt = 0; cwsize = 0 };
+      pins = record { hsync = false; vsync = false; clock = false };
+      syncs = not-blanking;
+      frame = Closed;
+      rate = 0;
+      partial = no-partial;
     }
+
+unfoldable pub fresh : Device
+fresh = device fresh-capture fresh-output
+
+-- Of a frame: whether it is open, and whether it is open and taken.
+abbrev pub is-open : Frame → Bool
+is-open Closed = false
+is-open (Open taken f) = true
+
+abbrev pub is-taken : Frame → Bool
+is-taken Closed = false
+is-taken (Open taken f) = taken
 
 -- Bit k of x made 1; made 0.
 unfoldable pub raised : ℕ → ℕ → ℕ
@@ -104,7 +112,3 @@ clear-capture s = with-registers (with-cr (lowered 0 (s .registers .cr)) (s .reg
 -- The frame closed, and with it the partial word dropped.
 unfoldable pub close-frame : Capture → Capture
 close-frame s = with-partial no-partial (with-frame Closed s)
-
--- The device with its capture state changed.
-unfoldable pub with-capture : Capture → Device → Device
-with-capture s d = record { capture = s; fifo = d .fifo; place = d .place; counts = d .counts }

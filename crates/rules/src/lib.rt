@@ -1,6 +1,8 @@
 // The state of the camera interface, as plain data. What the calls make of it is defined in specs/, in the paper's order and words;
 // proofs/ has the laws of those definitions and the bench sheet's cases. There is no code here: the functions stand in the crates above.
 // The order of the fields means nothing to the rules; it decides what the compiler keeps in registers (docs/SPEED.md).
+use output::Output;
+use output::SLOTS;
 
 // The registers that hold a value of their own. SR, MIS and ICR have none.
 pub struct Registers {
@@ -52,24 +54,14 @@ pub struct Capture {
     pub partial: Partial,
 }
 
-// The FIFO: the held words, oldest first, in the first slots.
-pub struct Fifo {
-    pub slots: [u32; 4],
-    pub held: u32,
-}
-
-// Counts since reset.
-pub struct Counts {
-    pub samples: u32,
-    pub completed: u32,
-    pub landed: u32,
-    pub discarded: u32,
-}
-
-// The device. `place` is the number of the next word to land, since the last re-arming.
-pub struct Device {
+// The state but for the FIFO's slots: what the capture rules change, and what rules 1 and 9 change.
+pub struct Core {
     pub capture: Capture,
-    pub counts: Counts,
-    pub fifo: Fifo,
-    pub place: u32,
+    pub output: Output,
+}
+
+// The device. The held words stand in the first slots, oldest first.
+pub struct Device {
+    pub core: Core,
+    pub slots: [u32; SLOTS],
 }

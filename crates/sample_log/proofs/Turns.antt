@@ -8,7 +8,7 @@ use lib.ListN.{length, getD, drop, drop-of-length-le}
 use lib.Seq.{drop-cons}
 use Rattle.rules.specs.declared.Device.{Device}
 use Rattle.rules.specs.Run.{Ran, sample}
-use Rattle.sampling.specs.Answers.{stepped}
+use Rattle.sampling.specs.Answers.{ran}
 use Rattle.sample_log.specs.Samples.{trace-t, samples}
 
 pub record Turn (d₀ : Device) (ms : List ℕ) (d : Device) (memory : List ℕ) (i : ℕ) : Type 0 where
@@ -22,7 +22,7 @@ unfolding samples
 one-more d m i w less e = rw (add-one, drop-cons trace-t i 0 less, e) refl
 
 pub next : {d₀ : Device} {ms : List ℕ} {d : Device} {m : List ℕ} {i : ℕ} → Turn d₀ ms d m i → (e : Device) (ys : List ℕ) (w : ℕ) → i < 8 → w ≡ getD trace-t i 0
-    → stepped e ys ≡ samples d m (w ∷ []) → length ys ≡ length m → Turn d₀ ms e ys (i + 1)
+    → ran e ys ≡ samples d m (w ∷ []) → length ys ≡ length m → Turn d₀ ms e ys (i + 1)
 unfolding samples
 next {d = d} {m = m} {i = i} t e ys w less w-is one long =
     record {
@@ -31,6 +31,6 @@ next {d = d} {m = m} {i = i} t e ys w less w-is one long =
       same = ap (λ (a : Ran). samples (a .device) (a .buffer) (drop (i + 1) trace-t)) one ∙ one-more d m i w less w-is ∙ t .same;
     }
 
-pub last : {d₀ : Device} {ms : List ℕ} {d : Device} {m : List ℕ} {i : ℕ} → Turn d₀ ms d m i → 8 ≤ i → stepped d m ≡ samples d₀ ms trace-t
+pub last : {d₀ : Device} {ms : List ℕ} {d : Device} {m : List ℕ} {i : ℕ} → Turn d₀ ms d m i → 8 ≤ i → ran d m ≡ samples d₀ ms trace-t
 unfolding samples
 last {d = d} {m = m} t over = ap (samples d m) (sym (drop-of-length-le trace-t over)) ∙ t .same

@@ -11,10 +11,10 @@ ghost use Rattle.sample_log.specs.Samples.{trace-t, samples};
 use device::Reading;
 use device::Reply;
 use libc::STDOUT_FILENO;
+use output::SLOTS;
 use refusals::Outcome;
 use registers::Register;
 use rules::Device;
-use rules::Fifo;
 use rules::Partial;
 use sampling::Landing;
 use sampling::Packing;
@@ -52,13 +52,11 @@ fn word(there: bool, w: u32) {
 }
 
 // The held words, oldest first.
-fn held(fifo: Fifo) {
-    let slots = fifo.slots;
-    count(b"  held ", fifo.held);
-    word(0 < fifo.held, slots[0]);
-    word(1 < fifo.held, slots[1]);
-    word(2 < fifo.held, slots[2]);
-    word(3 < fifo.held, slots[3]);
+fn held(n: u32, slots: [u32; SLOTS]) {
+    count(b"  held ", n);
+    for i in 0..SLOTS {
+        word(i < n as usize, slots[i]);
+    }
 }
 
 fn partial(p: Partial) {
@@ -76,13 +74,15 @@ fn state(d: Device) {
     register(b", CWSTRT ", d, Register::CWSTRT, 8);
     register(b", CWSIZE ", d, Register::CWSIZE, 8);
     text(b"\n");
-    held(d.fifo);
-    partial(d.capture.partial);
-    count(b", place ", d.place);
-    count(b", samples ", d.counts.samples);
-    count(b", completed ", d.counts.completed);
-    count(b", landed ", d.counts.landed);
-    count(b", discarded ", d.counts.discarded);
+    let output = d.core.output;
+    let slots = d.slots;
+    held(output.held, slots);
+    partial(d.core.capture.partial);
+    count(b", place ", output.place);
+    count(b", samples ", output.counts.samples);
+    count(b", completed ", output.counts.completed);
+    count(b", landed ", output.counts.landed);
+    count(b", discarded ", output.counts.discarded);
     text(b"\n");
 }
 
@@ -154,7 +154,7 @@ fn trace_t(i: usize) -> u32
 
 // One sample: the device is lent for it, what it answered and what the device then holds are printed, and the device is handed back.
 fn turn(mut d: Device, memory: &mut [u8], w: u32) -> Device
-    ensures { λ r. ⌜ answers.stepped r (now (memory .exit)) ≡ samples d (now (memory .entry)) (w ∷ []) ⌝ }
+    ensures { λ r. ⌜ answers.ran r (now (memory .exit)) ≡ samples d (now (memory .entry)) (w ∷ []) ⌝ }
 {
     let reply = lent::sample(&mut d, memory, 0, w);
     sampled(w, reply, d);
@@ -163,7 +163,7 @@ fn turn(mut d: Device, memory: &mut [u8], w: u32) -> Device
 
 // A write of CR and trace T. The one device is held here, and lent for each sample. The device and the memory after them are the rules' own.
 fn log(cr: u32, memory: &mut [u8]) -> Device
-    ensures { λ r. ⌜ answers.stepped r (now (memory .exit)) ≡ samples (calls.write state.fresh 0x00 cr .device) (now (memory .entry)) trace-t ⌝ }
+    ensures { λ r. ⌜ answers.ran r (now (memory .exit)) ≡ samples (calls.write state.fresh 0x00 cr .device) (now (memory .entry)) trace-t ⌝ }
 {
     let after = device::write(device::fresh(), Register::CR, cr);
     let outcome = after.outcome;

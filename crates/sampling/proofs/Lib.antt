@@ -1,4 +1,3 @@
-pub mod Edges
 pub mod Going
-pub mod Laws
+pub mod Ready
 pub mod Told

@@ -1,10 +1,10 @@
--- The values of each case of a sample's two answers (document 01, "One sample").
+-- The values of each case of a sample's two answers (document 01, "One sample"), and what some samples leave by value and in lent places, together.
 use mathlib.Core.List.{List}
 use mathlib.Core.Option.{Option, none, some}
 use Prim.Native.Nat.{ℕ}
+use Rattle.rules.specs.declared.Core.{Core}
 use Rattle.rules.specs.declared.Device.{Device}
-use Rattle.rules.specs.Queue.{Packed, nothing, completed, lost}
-use Rattle.rules.specs.Run.{Ran}
+use Rattle.rules.specs.Run.{Packed, nothing, completed, lost, Ran}
 use Rattle.sampling.specs.declared.Landing.{Landing}
 use Rattle.sampling.specs.declared.Landing.the-variants.{Nowhere, At}
 use Rattle.sampling.specs.declared.Packing.{Packing}
@@ -21,6 +21,12 @@ packing Nothing = nothing
 packing (Completed v) = completed v
 packing Lost = lost
 
--- A device with the frame buffer that some samples leave.
-abbrev pub stepped : Device → List ℕ → Ran
-stepped d buffer = record { device = d; buffer = buffer }
+-- The device of a core and its slots; and with the frame buffer that some samples leave.
+abbrev pub device : Core → List ℕ → Device
+device c slots = record { core = c; slots = slots }
+
+abbrev pub ran : Device → List ℕ → Ran
+ran d buffer = record { device = d; buffer = buffer }
+
+abbrev pub stepped : Core → List ℕ → List ℕ → Ran
+stepped c slots buffer = ran (device c slots) buffer

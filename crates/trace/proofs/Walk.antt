@@ -1,13 +1,13 @@
 -- The places of a file: first each write, then each sample, then the end; and content decides an accepted file.
 -- The idea: the two tests of `item` come out by comparing the place with the counts; the rest is that a file is rewritten. Assumes nothing.
 use mathlib.Core.List.{List}
-use mathlib.Core.Path.{_≡_, refl, sym, ap, _∙_}
+use mathlib.Core.Path.{_≡_, sym, ap, _∙_}
 use Prim.Native.Nat.{ℕ, _+_, _-_, _≤_, _<_}
 use native.Mathlib.Omega.{arith}
 use borrow.Author.Tests.{lt-ltb, le-ltb}
 use Rattle.trace.specs.declared.Write.{Write}
 use Rattle.trace.specs.Format.{encode}
-use Rattle.trace.specs.Reading.{Item, a-write, a-sample, the-end, refused, checked, item, past, write-count, sample-count, form-refusal, write-at, sample-at, samples-from, writes-of, samples-of}
+use Rattle.trace.specs.Reading.{Item, a-write, a-sample, the-end, refused, checked, item, past, write-count, sample-count, form-refusal, write-at, sample-at, writes-of, samples-of}
 use Rattle.trace.proofs.Numbers.{Bytes}
 use Rattle.trace.proofs.Rewritten.{rewritten}
 

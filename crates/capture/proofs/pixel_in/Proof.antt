@@ -1,15 +1,8 @@
 -- `capture::pixel_in` meets its contract. Assumes nothing.
--- Each return unfolds the definition and rewrites by what the calls gave and by the tests on the way there.
 use borrow.Author.Needs.{needs}
 use Rattle.rules.specs.Capture.{no-word, pixel-in}
 use Rattle.capture.proofs.pixel_in.Statement.{statement}
 use Rattle.capture.proofs.pixel_in.Tie as tie
-
-enum-told : tie.Need-enum-told
-enum-told c = search needs
-
-enum-known-frame : tie.Need-enum-known-frame
-enum-known-frame c = search needs
 
 pixel-requires : tie.Need-pixel-requires
 pixel-requires c κs = (rw (c .before .frame .given .1) at (c .before .before .before .pre .0), c .before .before .before .pre .1)
@@ -23,4 +16,4 @@ unfolding pixel-in
 returns-2 c = rw (c .before .before .frame .given .1, ← c .pixel .ensures)
 
 pub pixel-in-spec : {M : Type 1} → statement M
-pixel-in-spec = tie.close (tie.spec enum-told enum-known-frame pixel-requires returns returns-2)
+pixel-in-spec = tie.close (tie.spec (λ c. search needs) (λ c. search needs) pixel-requires returns returns-2)

@@ -1,10 +1,11 @@
 -- `capture::plain_edge` meets its contract. Assumes nothing.
--- No flag rises and no frame ends; a frame may start, and the edge then carries a pixel.
+use mathlib.Core.Path.{ap}
 use native.Mathlib.Omega.{arith}
-use Rattle.laws.proofs.KeepsFrame.{frame-start-ok}
-use Rattle.rules.specs.Capture.{frame-start}
-use Rattle.rules.specs.State.{not-blanking}
-use Rattle.capture.proofs.Laws.{short-period, packed-fits, plain-edge}
+use Rattle.laws.proofs.Kept.{frame-start-kept}
+use Rattle.laws.proofs.Packing.{datum-joins}
+use Rattle.rules.specs.Capture.{Captured, frame-start, remember-syncs}
+use Rattle.rules.specs.State.{not-blanking, with-syncs}
+use Rattle.capture.proofs.Laws.{short-period, plain-edge}
 use Rattle.capture.proofs.plain_edge.Statement.{statement}
 use Rattle.capture.proofs.plain_edge.Tie as tie
 
@@ -13,11 +14,15 @@ frame-start-requires c κs = omega (arith, c .pre .rate, short-period (c .args .
 
 pixel-in-requires : tie.Need-pixel-in-requires
 pixel-in-requires c κs =
-    let ok = frame-start-ok not-blanking (c .before .pre) in
-    rw (c .frame-start .ensures) ((omega (arith, ok .lines), omega (arith, ok .pixels)), (ok .short, packed-fits (frame-start (c .before .args .s) not-blanking) (c .before .args .w) ok))
+    let s = frame-start (c .before .args .s) not-blanking in
+    let ok = frame-start-kept (c .before .args .s) not-blanking .ok _ (c .before .pre) in
+    rw (c .frame-start .ensures) ((omega (arith, ok .lines), omega (arith, ok .pixels)), datum-joins s (c .before .args .datum) ok)
 
 returns : tie.Need-returns
-returns c = rw (plain-edge, ← c .before .frame-start .ensures, ← c .pixel-in .ensures)
+unfolding remember-syncs with-syncs
+returns c =
+    let e = c .before .before .before .pixel-in .ensures in
+    rw (plain-edge, ← c .before .before .before .before .frame-start .ensures, ← ap (λ (x : Captured). x .state) e, ← ap (λ (x : Captured). x .word) e)
 
 pub plain-edge-spec : {M : Type 1} → statement M
 plain-edge-spec = tie.close (tie.spec frame-start-requires pixel-in-requires returns)

@@ -1,26 +1,10 @@
 -- `dcmi::dcmi_run_slices` meets its contract. Assumes nothing.
--- Each return unfolds the definition and rewrites by what the calls gave and by the tests on the way there.
 use borrow.Author.Needs.{needs}
 use mathlib.Core.Path.{_∙_}
 use Rattle.dcmi.proofs.Stored.{run-stored}
 use Rattle.dcmi.specs.Calls.{run}
 use Rattle.dcmi.proofs.dcmi_run_slices.Statement.{statement}
 use Rattle.dcmi.proofs.dcmi_run_slices.Tie as tie
-
-encodes-requires : tie.Need-encodes-requires
-encodes-requires c κs = search needs
-
-device-of-requires : tie.Need-device-of-requires
-device-of-requires c κs = search needs
-
-run-requires : tie.Need-run-requires
-run-requires c κs = search needs
-
-store-requires : tie.Need-store-requires
-store-requires c κs = search needs
-
-same-length : tie.Need-same-length
-same-length c = search needs
 
 returns : tie.Need-returns
 unfolding run
@@ -34,10 +18,10 @@ pub dcmi-run-slices-spec : {M : Type 1} → statement M
 dcmi-run-slices-spec =
     tie.close
     (tie.spec
-    encodes-requires
-    device-of-requires
-    run-requires
-    store-requires
-    same-length
+    (λ c κs. search needs)
+    (λ c κs. search needs)
+    (λ c κs. search needs)
+    (λ c κs. search needs)
+    (λ c. search needs)
     returns
     returns-2)

@@ -1,26 +1,10 @@
 -- `dcmi::dcmi_sample_slices` meets its contract. Assumes nothing.
--- Each return unfolds the definition and rewrites by what the calls gave and by the tests on the way there.
 use borrow.Author.Needs.{needs}
 use mathlib.Core.Path.{_∙_}
 use Rattle.dcmi.proofs.Stored.{sampled}
 use Rattle.dcmi.specs.Calls.{sample}
 use Rattle.dcmi.proofs.dcmi_sample_slices.Statement.{statement}
 use Rattle.dcmi.proofs.dcmi_sample_slices.Tie as tie
-
-encodes-requires : tie.Need-encodes-requires
-encodes-requires c κs = search needs
-
-device-of-requires : tie.Need-device-of-requires
-device-of-requires c κs = search needs
-
-sample-requires : tie.Need-sample-requires
-sample-requires c κs = search needs
-
-put-sampled-requires : tie.Need-put-sampled-requires
-put-sampled-requires c κs = search needs
-
-same-length : tie.Need-same-length
-same-length c = search needs
 
 returns : tie.Need-returns
 unfolding sample
@@ -34,10 +18,10 @@ pub dcmi-sample-slices-spec : {M : Type 1} → statement M
 dcmi-sample-slices-spec =
     tie.close
     (tie.spec
-    encodes-requires
-    device-of-requires
-    sample-requires
-    put-sampled-requires
-    same-length
+    (λ c κs. search needs)
+    (λ c κs. search needs)
+    (λ c κs. search needs)
+    (λ c κs. search needs)
+    (λ c. search needs)
     returns
     returns-2)

@@ -1,14 +1,13 @@
 -- `device::fresh` meets its contract. Assumes nothing.
--- Each return unfolds the definition and rewrites by what the calls gave and by the tests on the way there.
 use mathlib.Core.Path.{refl}
-use Rattle.rules.specs.State.{fresh}
+use Rattle.output.specs.Output.{laid, with-held, holding, fresh-output}
+use Rattle.rules.specs.State.{fresh-capture, fresh}
 use Rattle.device.proofs.fresh.Statement.{statement}
 use Rattle.device.proofs.fresh.Tie as tie
 
-returns : tie.Need-returns
-unfolding fresh
-returns c =
-    refl
-
 pub fresh-spec : {M : Type 1} → statement M
-fresh-spec = tie.close (tie.spec returns)
+unfolding fresh fresh-capture fresh-output holding with-held laid
+fresh-spec =
+    tie.close
+    (tie.spec
+    (λ c. refl))

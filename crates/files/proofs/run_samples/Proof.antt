@@ -38,7 +38,7 @@ returns-3 c =
     let a = c .before .before .before .before .before .before .before .before .before .before .args in
     let pre = c .before .before .before .before .before .before .before .before .before .before .pre in
     let good = accepted-file _ (sym (c .before .before .before .before .before .before .check-file .ensures) ∙ ap outcome (c .before .before .before .before .enum-told .given .1)) .1 in
-    let fits : a .d .counts .samples + length (samples-of (a .file .now)) ≤ 4294967295 = omega (arith, length-samples-of (a .file .now), pre .1 .0, formed _ (pre .1 .1) .few) in
+    let fits : a .d .core .output .counts .samples + length (samples-of (a .file .now)) ≤ 4294967295 = omega (arith, length-samples-of (a .file .now), pre .1 .0, formed _ (pre .1 .1) .few) in
     let ran = rw tail-part at (c .before .before .steps .ensures) in
     rw (
       pre .0,

@@ -1,7 +1,7 @@
 -- `files::steps` meets its contract: the samples left lead to the same end.
-use Prim.Native.Nat.{_+_, _-_}
+use Prim.Native.Nat.{_-_}
 use borrow.Author.Needs.{needs}
-use mathlib.Core.Path.{refl, sym, ap, _∙_}
+use mathlib.Core.Path.{refl, sym, ap}
 use native.Mathlib.Omega.{arith}
 use lib.Seq.{length-take-le}
 use Rattle.files.specs.File.{stepped}
@@ -33,13 +33,13 @@ array-share-prefix-samples c =
     let s = c .before .before .before .before .before .before .loop .inv in
     stepping-room s _ _ (stepping-taken s (c .before .before .before .before .before .before .before .before .before .pre .1 .1) (c .before .before .before .before .stretch-at .ensures) (c .before .before .stretch .given .1))
 
-slice-aggregate-run-stretch : tie.Need-slice-aggregate-run-stretch Inv-loop μ-loop
-slice-aggregate-run-stretch c =
+slice-aggregate-run : tie.Need-slice-aggregate-run Inv-loop μ-loop
+slice-aggregate-run c =
     let s = c .before .before .before .before .before .before .before .loop .inv in
     sym (length-take-le _ _ (stepping-room s _ _ (stepping-taken s (c .before .before .before .before .before .before .before .before .before .before .pre .1 .1) (c .before .before .before .before .before .stretch-at .ensures) (c .before .before .before .stretch .given .1))))
 
-run-stretch-requires : tie.Need-run-stretch-requires Inv-loop μ-loop
-run-stretch-requires c κs =
+run-requires : tie.Need-run-requires Inv-loop μ-loop
+run-requires c κs =
     let s = c .before .before .before .before .before .before .before .loop .inv in
     let p = stepping-taken s (c .before .before .before .before .before .before .before .before .before .before .pre .1 .1) (c .before .before .before .before .before .stretch-at .ensures) (c .before .before .before .stretch .given .1) in
     stepping-asks s _ _ p (stepping-few s (c .before .before .before .before .before .before .before .before .before .before .pre .1 .1) (c .before .before .before .before .before .stretch-at .ensures) (c .before .before .before .stretch .given .1))
@@ -56,7 +56,7 @@ loop-again : tie.Need-loop-again Inv-loop μ-loop
 loop-again c =
     let s = c .before .before .before .before .before .before .before .before .before .before .loop .inv in
     let p = stepping-taken s (c .before .before .before .before .before .before .before .before .before .before .before .before .before .pre .1 .1) (c .before .before .before .before .before .before .before .before .stretch-at .ensures) (c .before .before .before .before .before .before .stretch .given .1) in
-    stepping-on s _ _ _ _ p (rw (stepping-part s _ _ p) at (c .before .before .run-stretch .ensures)) (c .before .before .run-stretch .kept .1 .0)
+    stepping-on s _ _ _ _ p (rw (stepping-part s _ _ p) at (c .before .before .run .ensures)) (c .before .before .run .kept .1 .0)
 
 pub steps-spec : {M : Type 1} → statement M
 steps-spec =
@@ -73,8 +73,8 @@ steps-spec =
     (λ c. c .before .before .before .before .before .before .loop .inv .long)
     returns-2
     array-share-prefix-samples
-    slice-aggregate-run-stretch
-    run-stretch-requires
+    slice-aggregate-run
+    run-requires
     add-done
     loop-less
     loop-again)

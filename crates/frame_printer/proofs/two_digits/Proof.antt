@@ -5,14 +5,8 @@ use native.Mathlib.Nat.{div-one}
 use Rattle.frame_printer.proofs.two_digits.Statement.{statement}
 use Rattle.frame_printer.proofs.two_digits.Tie as tie
 
-digit-requires : tie.Need-digit-requires
-digit-requires c κs = search needs
-
-digit-requires-2 : tie.Need-digit-requires-2
-digit-requires-2 c κs = search needs
-
 returns : tie.Need-returns
 returns c = rw (c .before .digit .ensures, c .digit2 .ensures, div-one (c .before .before .args .x))
 
 pub two-digits-spec : {M : Type 1} → statement M
-two-digits-spec = tie.close (tie.spec digit-requires digit-requires-2 returns)
+two-digits-spec = tie.close (tie.spec (λ c κs. search needs) (λ c κs. search needs) returns)

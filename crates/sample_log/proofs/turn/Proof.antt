@@ -41,7 +41,7 @@ use denote.Triple.Table.{entered, cited}
 use denote.Triple.Walked.{says, Stays, stay-dropped, gave-slice, walkOf, goes-dropped, goes-gave-slice, Walks, ends-at, walked, walk-meets}
 use denote.Exit.{yes}
 use Rattle.device.specs.Answers as answers
-use Rattle.sampling.specs.Answers.{stepped}
+use Rattle.sampling.specs.Answers.{ran}
 use Rattle.device.specs.declared.Reply.{Reply}
 use Rattle.rules.specs.Run as rules
 use Rattle.rules.specs.declared.Device.{Device}
@@ -121,11 +121,11 @@ module _ {M : Type 1} (𝓤 : URA M) (H : Heap 𝓤) (A : Atoms 𝓤) (W : Given
       qed W [] ∵ nothing ! $ owned ! T.the-row (Is T.the-row) (LL.makes T.the-type T′.the-plain 𝓤 H A) e _ e-is $ fjoin ! $ owned ! R.the-row (Is R.the-row) (EL.makes R.the-type R′.the-plain 𝓤 H A) r _ is $ fjoin ! $
       owned ! u32 (Is u32) (uint-makes 𝓤 H A W w32) w _ (refl, w-fits) $ fjoin ! $ nothing ! $ join ! $ frame ! $ done !
 
-  one-sample : (r : Reply) (e : Device) (ys : List ℕ) → Took r e ys → stepped e ys ≡ samples d (m .now) (w ∷ [])
+  one-sample : (r : Reply) (e : Device) (ys : List ℕ) → Took r e ys → ran e ys ≡ samples d (m .now) (w ∷ [])
   unfolding samples
-  one-sample r e ys took = ap (λ (a : rules.SampleResult). stepped (a .device) (a .memory)) took
+  one-sample r e ys took = ap (λ (a : rules.SampleResult). ran (a .device) (a .memory)) took
 
-  exits : (e : Device) (ys : List ℕ) → stepped e ys ≡ samples d (m .now) (w ∷ []) → IsDevice e → length ys ≡ length (m .now)
+  exits : (e : Device) (ys : List ℕ) → ran e ys ≡ samples d (m .now) (w ∷ []) → IsDevice e → length ys ≡ length (m .now)
       → ent 𝓤 (⋆ 𝓤 H A ((‵ (flft κ q) ⊛ ‵ ftrue) ∷ ‵ (finally u8 (m .name) ys) ∷ [])) (Post (val e))
   exits e ys is e-is l =
       qed W ((‵ (flft κ q) ⊛ ‵ ftrue) ∷ ‵ (finally u8 (m .name) ys) ∷ []) ∵

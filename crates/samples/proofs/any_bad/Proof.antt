@@ -23,14 +23,8 @@ abbrev μ-loop : tie.MeasureT-loop
 loop-holds : tie.Need-loop-holds Inv-loop μ-loop
 loop-holds c = refl
 
-mul-bad-sample : tie.Need-mul-bad-sample Inv-loop μ-loop
-mul-bad-sample c = search needs
-
 shared-slice-read-bad-sample : tie.Need-shared-slice-read-bad-sample Inv-loop μ-loop
 shared-slice-read-bad-sample c = omega arith
-
-bad-sample-requires : tie.Need-bad-sample-requires Inv-loop μ-loop
-bad-sample-requires c κs = search needs
 
 add-i : tie.Need-add-i Inv-loop μ-loop
 add-i c = omega arith
@@ -61,9 +55,9 @@ any-bad-spec =
     Inv-loop
     μ-loop
     loop-holds
-    mul-bad-sample
+    (λ c. search needs)
     shared-slice-read-bad-sample
-    bad-sample-requires
+    (λ c κs. search needs)
     add-i
     loop-less
     loop-again

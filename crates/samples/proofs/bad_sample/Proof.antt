@@ -1,5 +1,4 @@
 -- `samples::bad_sample` meets its contract. Assumes nothing.
--- Each return unfolds the definition and rewrites by what the calls gave and by the tests on the way there.
 use mathlib.Core.Path.{refl}
 use Rattle.samples.specs.Samples.{bad-sample}
 use Rattle.samples.proofs.bad_sample.Statement.{statement}

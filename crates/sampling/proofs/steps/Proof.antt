@@ -1,43 +1,40 @@
--- `sampling::steps` meets its contract. Assumes nothing.
--- The loop keeps `Going`: what is left of the samples leads to the same end. Each turn is one step of the rules.
+-- `sampling::steps` meets its contract: the loop keeps `Going`, and each turn is one step of the rules. Assumes nothing.
 use Prim.Native.Nat.{_-_}
 use borrow.Author.Needs.{needs}
 use lib.ListN.{length}
 use mathlib.Core.Path.{sym}
 use native.Mathlib.Omega.{arith}
+use Rattle.sampling.specs.Answers.{device}
 use Rattle.sampling.proofs.Going.{Going, starting, going-on, going-end}
 use Rattle.sampling.proofs.steps.Statement.{statement}
 use Rattle.sampling.proofs.steps.Tie as tie
 
 abbrev Inv-loop : tie.InvT-loop
-Inv-loop buffer₀ samples e₀ i₀ buffer e i = Going buffer₀ samples e₀ buffer e i
+Inv-loop slots₀ buffer₀ samples e₀ i₀ slots buffer e i = Going buffer₀ samples (device e₀ slots₀) buffer (device e slots) i
 
 abbrev μ-loop : tie.MeasureT-loop
-μ-loop buffer₀ samples e₀ i₀ buffer e i = length samples - i
+μ-loop slots₀ buffer₀ samples e₀ i₀ slots buffer e i = length samples - i
 
 loop-holds : tie.Need-loop-holds Inv-loop μ-loop
-loop-holds c = starting _ _ _ (c .before .before .pre .0)
-
-mul-w : tie.Need-mul-w Inv-loop μ-loop
-mul-w c = search needs
+loop-holds c = let pre = c .before .before .pre in starting _ _ _ (pre .0) (pre .1 .0)
 
 shared-slice-read-w : tie.Need-shared-slice-read-w Inv-loop μ-loop
 shared-slice-read-w c = omega (arith, c .before .loop-test .taken)
 
 step-requires : tie.Need-step-requires Inv-loop μ-loop
 step-requires c κs =
-    let g = c .before .before .before .loop .inv in
-    (g .well, omega (arith, g .count, c .before .before .loop-test .taken, c .before .before .before .before .before .before .pre .1))
+    let g = c .before .before .before .before .loop .inv in
+    (g .well, (g .laid, omega (arith, g .count, c .before .before .before .loop-test .taken, c .before .before .before .before .before .before .before .pre .1 .1)))
 
 add-i : tie.Need-add-i Inv-loop μ-loop
-add-i c = omega (arith, c .before .before .before .before .before .loop-test .taken, c .before .before .before .before .before .before .before .before .before .good)
+add-i c = omega (arith, c .before .before .before .before .before .before .loop-test .taken, c .before .before .before .before .before .before .before .before .before .before .good)
 
 loop-less : tie.Need-loop-less Inv-loop μ-loop
-loop-less c = omega (arith, c .before .before .before .before .before .loop-test .taken)
+loop-less c = omega (arith, c .before .before .before .before .before .before .loop-test .taken)
 
 loop-again : tie.Need-loop-again Inv-loop μ-loop
 loop-again c =
-    going-on (c .before .before .before .before .before .before .loop .inv) _ _ (c .before .before .before .before .before .loop-test .taken) (c .before .before .step .ensures) (c .before .before .step .kept .1 .0)
+    going-on (c .before .before .before .before .before .before .before .loop .inv) _ _ (c .before .before .before .before .before .before .loop-test .taken) (c .before .before .step .ensures) (c .before .before .step .kept .1 .1 .0)
 
 same-length : tie.Need-same-length Inv-loop μ-loop
 same-length c = c .before .loop .inv .long
@@ -52,7 +49,7 @@ steps-spec =
     Inv-loop
     μ-loop
     loop-holds
-    mul-w
+    (λ c. search needs)
     shared-slice-read-w
     step-requires
     add-i

@@ -1,5 +1,4 @@
 -- `capture::frame::without_capture` meets its contract. Assumes nothing.
--- Each return unfolds the definition and rewrites by what the calls gave and by the tests on the way there.
 use Prim.Native.Nat.{_^_, _/_, _%_}
 use borrow.Author.Needs.{needs}
 use borrow.Author.Tests.{eqb-true}
@@ -9,27 +8,16 @@ use Rattle.rules.specs.State.{lowered}
 use Rattle.capture.proofs.frame.without_capture.Statement.{statement}
 use Rattle.capture.proofs.frame.without_capture.Tie as tie
 
-capture-requires : tie.Need-capture-requires
-capture-requires c κs = search needs
-
 sub-result : tie.Need-sub-result
 sub-result c = omega (arith, eqb-true (c .before .before .args .cr / 2 ^ 0 % 2) 1 (sym (c .before .capture .ensures) ∙ c .if1 .taken))
 
 returns : tie.Need-returns
 unfolding lowered
-returns c =
-    rw (
-      ← c .before .capture .ensures,
-      c .if1 .taken,
-    )
+returns c = rw (← c .before .capture .ensures, c .if1 .taken)
 
 returns-2 : tie.Need-returns-2
 unfolding lowered
-returns-2 c =
-    rw (
-      ← c .before .capture .ensures,
-      c .if1 .left,
-    )
+returns-2 c = rw (← c .before .capture .ensures, c .if1 .left)
 
 pub without-capture-spec : {M : Type 1} → statement M
-without-capture-spec = tie.close (tie.spec capture-requires sub-result returns returns-2)
+without-capture-spec = tie.close (tie.spec (λ c κs. search needs) sub-result returns returns-2)

@@ -1,5 +1,4 @@
 -- `capture::syncs::vsync_flag` meets its contract. Assumes nothing.
--- Each return unfolds the definition and rewrites by what the calls gave and by the tests on the way there.
 use borrow.Author.Needs.{needs}
 use Rattle.rules.specs.Capture.{vsync-flag}
 use Rattle.capture.proofs.syncs.vsync_flag.Statement.{statement}
@@ -7,28 +6,15 @@ use Rattle.capture.proofs.syncs.vsync_flag.Tie as tie
 
 returns : tie.Need-returns
 unfolding vsync-flag
-returns c =
-    rw (c .if1 .taken)
-
-raise-vsync-requires : tie.Need-raise-vsync-requires
-raise-vsync-requires c κs = search needs
+returns c = rw (c .if1 .taken)
 
 returns-2 : tie.Need-returns-2
 unfolding vsync-flag
-returns-2 c =
-    rw (
-      ← c .raise-vsync .ensures,
-      c .before .before .if1 .left,
-      c .before .if2 .taken,
-    )
+returns-2 c = rw (← c .raise-vsync .ensures, c .before .before .if1 .left, c .before .if2 .taken)
 
 returns-3 : tie.Need-returns-3
 unfolding vsync-flag
-returns-3 c =
-    rw (
-      c .before .if1 .left,
-      c .if2 .left,
-    )
+returns-3 c = rw (c .before .if1 .left, c .if2 .left)
 
 pub vsync-flag-spec : {M : Type 1} → statement M
-vsync-flag-spec = tie.close (tie.spec returns raise-vsync-requires returns-2 returns-3)
+vsync-flag-spec = tie.close (tie.spec returns (λ c κs. search needs) returns-2 returns-3)

@@ -1,5 +1,4 @@
 -- `device::control_writes::disables` meets its contract. Assumes nothing.
--- Each return rewrites by what the calls gave and by the tests on the way there.
 use borrow.Author.Needs.{needs}
 use Rattle.device.proofs.control_writes.disables.Statement.{statement}
 use Rattle.device.proofs.control_writes.disables.Tie as tie
@@ -14,18 +13,13 @@ returns c =
       ← c .enable2 .ensures,
     )
 
-returns-2 : tie.Need-returns-2
-returns-2 c =
-    rw (
-      ← c .before .before .before .is-control .ensures,
-      c .before .before .if1 .taken,
-      ← c .before .enable .ensures,
-      c .if2 .left,
-    )
-
-returns-3 : tie.Need-returns-3
-returns-3 c = search needs
-
 pub disables-spec : {M : Type 1} → statement M
 disables-spec =
-    tie.close (tie.spec (λ c κs. search needs) (λ c κs. search needs) (λ c κs. search needs) returns returns-2 returns-3)
+    tie.close
+    (tie.spec
+    (λ c κs. search needs)
+    (λ c κs. search needs)
+    (λ c κs. search needs)
+    returns
+    (λ c. rw (← c .before .before .before .is-control .ensures, c .before .before .if1 .taken, ← c .before .enable .ensures, c .if2 .left))
+    (λ c. search needs))

@@ -1,5 +1,4 @@
 -- `device::control_writes::write_register` meets its contract. Assumes nothing.
--- In each arm the register is known, and the definition does what the arm does.
 use borrow.Author.Needs.{needs}
 use Rattle.rules.specs.RegisterCalls.{write-register}
 use Rattle.rules.specs.State.{with-cwsize, with-cwstrt, with-ier, with-registers}

@@ -1,11 +1,7 @@
 -- `device::register_calls::fixed` meets its contract. Assumes nothing.
--- Where the register is CR, the answer is what `changes_setup` gave.
 use borrow.Author.Needs.{needs}
 use Rattle.device.proofs.register_calls.fixed.Statement.{statement}
 use Rattle.device.proofs.register_calls.fixed.Tie as tie
-
-returns : tie.Need-returns
-returns c = search needs
 
 returns-2 : tie.Need-returns-2
 returns-2 c =
@@ -17,9 +13,6 @@ returns-2 c =
       ← c .changes-setup .ensures,
     )
 
-returns-3 : tie.Need-returns-3
-returns-3 c = search needs
-
 pub fixed-spec : {M : Type 1} → statement M
 fixed-spec =
-    tie.close (tie.spec (λ c κs. search needs) (λ c κs. search needs) (λ c κs. search needs) returns returns-2 returns-3)
+    tie.close (tie.spec (λ c κs. search needs) (λ c κs. search needs) (λ c κs. search needs) (λ c. search needs) returns-2 (λ c. search needs))

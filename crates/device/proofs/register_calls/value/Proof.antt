@@ -1,5 +1,4 @@
 -- `device::register_calls::value` meets its contract. Assumes nothing.
--- In each arm the register is known, and the definition gives what the arm gives.
 use borrow.Author.Needs.{needs}
 use Rattle.rules.specs.RegisterCalls.{value, masked}
 use Rattle.device.proofs.register_calls.value.Statement.{statement}

@@ -1,5 +1,4 @@
 -- `device::register_calls::write` meets its contract. Assumes nothing.
--- Each return unfolds the definition and rewrites by what the calls gave and by the tests on the way there.
 use borrow.Author.Needs.{needs}
 use mathlib.Core.Path.{sym, _∙_}
 use native.Mathlib.Omega.{arith}
@@ -7,41 +6,6 @@ use Rattle.rules.proofs.WellFormed.{facts}
 use Rattle.rules.specs.RegisterCalls.{write-refusal, write}
 use Rattle.device.proofs.register_calls.write.Statement.{statement}
 use Rattle.device.proofs.register_calls.write.Tie as tie
-
-malformed-requires : tie.Need-malformed-requires
-malformed-requires c κs = search needs
-
-returns : tie.Need-returns
-unfolding write write-refusal
-returns c =
-    rw (
-      ← c .before .malformed .ensures,
-      c .if1 .taken,
-    )
-
-at-requires : tie.Need-at-requires
-at-requires c κs = search needs
-
-enum-known-found : tie.Need-enum-known-found
-enum-known-found c = search needs
-
-enum-told : tie.Need-enum-told
-enum-told c = search needs
-
-returns-2 : tie.Need-returns-2
-unfolding write write-refusal
-returns-2 c =
-    rw (
-      sym (c .before .before .at .ensures) ∙ c .enum-told .given .1,
-      ← c .before .before .before .before .malformed .ensures,
-      c .before .before .before .if1 .left,
-    )
-
-access-requires : tie.Need-access-requires
-access-requires c κs = search needs
-
-no-write-requires : tie.Need-no-write-requires
-no-write-requires c κs = search needs
 
 returns-3 : tie.Need-returns-3
 unfolding write write-refusal
@@ -54,9 +18,6 @@ returns-3 c =
       c .before .before .before .before .before .before .before .if1 .left,
       c .if2 .taken,
     )
-
-reserved-set-requires : tie.Need-reserved-set-requires
-reserved-set-requires c κs = search needs
 
 returns-4 : tie.Need-returns-4
 unfolding write write-refusal
@@ -71,9 +32,6 @@ returns-4 c =
       c .before .before .if2 .left,
       c .if3 .taken,
     )
-
-unsupported-at-requires : tie.Need-unsupported-at-requires
-unsupported-at-requires c κs = search needs
 
 returns-5 : tie.Need-returns-5
 unfolding write write-refusal
@@ -90,9 +48,6 @@ returns-5 c =
       c .before .before .if3 .left,
       c .if4 .taken,
     )
-
-fixed-at-requires : tie.Need-fixed-at-requires
-fixed-at-requires c κs = search needs
 
 returns-6 : tie.Need-returns-6
 unfolding write write-refusal
@@ -115,7 +70,7 @@ returns-6 c =
 write-at-requires : tie.Need-write-at-requires
 write-at-requires c κs =
     let well = facts (c .before .before .before .before .before .before .before .before .before .before .before .before .before .before .before .args .d) (sym (c .before .before .before .before .before .before .before .before .before .before .before .before .before .before .malformed .ensures) ∙ c .before .before .before .before .before .before .before .before .before .before .before .before .before .if1 .left) in
-    omega (arith, well .queue .equation, well .queue .completed, c .before .before .before .before .before .before .before .before .before .before .before .before .before .before .before .good)
+    omega (arith, well .output .equation, well .output .completed, c .before .before .before .before .before .before .before .before .before .before .before .before .before .before .before .good)
 
 returns-7 : tie.Need-returns-7
 unfolding write write-refusal
@@ -137,23 +92,24 @@ returns-7 c =
     )
 
 pub write-spec : {M : Type 1} → statement M
+unfolding write write-refusal
 write-spec =
     tie.close
     (tie.spec
-    malformed-requires
-    returns
-    at-requires
-    enum-known-found
-    enum-told
-    returns-2
-    access-requires
-    no-write-requires
+    (λ c κs. search needs)
+    (λ c. rw (← c .before .malformed .ensures, c .if1 .taken))
+    (λ c κs. search needs)
+    (λ c. search needs)
+    (λ c. search needs)
+    (λ c. rw (sym (c .before .before .at .ensures) ∙ c .enum-told .given .1, ← c .before .before .before .before .malformed .ensures, c .before .before .before .if1 .left))
+    (λ c κs. search needs)
+    (λ c κs. search needs)
     returns-3
-    reserved-set-requires
+    (λ c κs. search needs)
     returns-4
-    unsupported-at-requires
+    (λ c κs. search needs)
     returns-5
-    fixed-at-requires
+    (λ c κs. search needs)
     returns-6
     write-at-requires
     returns-7)

@@ -1,5 +1,4 @@
 -- `device::well_formed::above` meets its contract. Assumes nothing.
--- Each return unfolds the definition and rewrites by what the calls gave and by the tests on the way there.
 use Prim.Native.Nat.{_<_, _^_}
 use borrow.Author.Needs.{needs}
 use lib.Pow.{pow-mono}
@@ -13,11 +12,5 @@ returns c =
     lt-of-lt-of-le (c .before .fits .bits .fits) (pow-mono (c .if1 .taken)) in
     rw (div-eq-of-lt low)
 
-shr-result : tie.Need-shr-result
-shr-result c = search needs
-
-returns-2 : tie.Need-returns-2
-returns-2 c = search needs
-
 pub above-spec : {M : Type 1} → statement M
-above-spec = tie.close (tie.spec returns shr-result returns-2)
+above-spec = tie.close (tie.spec returns (λ c. search needs) (λ c. search needs))

@@ -1,35 +1,10 @@
 -- `device::well_formed::active_disabled` meets its contract. Assumes nothing.
--- Each return unfolds the definition and rewrites by what the calls gave and by the tests on the way there.
 use borrow.Author.Needs.{needs}
 use borrow.Author.Tests.{le-ltb, lt-ltb}
 use Rattle.bits.proofs.Booleans.{or-unit}
 use Rattle.rules.specs.WellFormed.{active-disabled}
 use Rattle.device.proofs.well_formed.active_disabled.Statement.{statement}
 use Rattle.device.proofs.well_formed.active_disabled.Tie as tie
-
-enable-requires : tie.Need-enable-requires
-enable-requires c κs = search needs
-
-returns : tie.Need-returns
-unfolding active-disabled
-returns c =
-    rw (
-      ← c .before .enable .ensures,
-      c .if1 .taken,
-    )
-
-is-open-requires : tie.Need-is-open-requires
-is-open-requires c κs = search needs
-
-returns-2 : tie.Need-returns-2
-unfolding active-disabled
-returns-2 c =
-    rw (
-      ← c .before .before .before .enable .ensures,
-      ← c .before .is-open .ensures,
-      c .before .before .if1 .left,
-      c .if2 .taken,
-    )
 
 returns-3 : tie.Need-returns-3
 unfolding active-disabled
@@ -68,6 +43,14 @@ returns-5 c =
     )
 
 pub active-disabled-spec : {M : Type 1} → statement M
+unfolding active-disabled
 active-disabled-spec =
     tie.close
-    (tie.spec enable-requires returns is-open-requires returns-2 returns-3 returns-4 returns-5)
+    (tie.spec
+    (λ c κs. search needs)
+    (λ c. rw (← c .before .enable .ensures, c .if1 .taken))
+    (λ c κs. search needs)
+    (λ c. rw (← c .before .before .before .enable .ensures, ← c .before .is-open .ensures, c .before .before .if1 .left, c .if2 .taken))
+    returns-3
+    returns-4
+    returns-5)

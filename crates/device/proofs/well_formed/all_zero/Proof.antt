@@ -1,5 +1,4 @@
 -- `device::well_formed::all_zero` meets its contract. Assumes nothing.
--- The loop keeps that the slots from the first on are all 0 exactly if those from i on are.
 use Prim.Native.Nat.{ℕ, _-_, _<_, _≤_}
 use borrow.Author.Tests.{eq-eqb, ne-eqb}
 use lib.ListN.{drop, length, drop-of-length-le}
@@ -7,7 +6,8 @@ use lib.Seq.{drop-cons}
 use mathlib.Core.Path.{_≡_, refl}
 use native.Mathlib.Numerals.{add-one}
 use native.Mathlib.Omega.{arith}
-use Rattle.rules.specs.WellFormed.{all-zero}
+use Rattle.output.specs.Output.{slot-count}
+use Rattle.output.specs.WellFormed.{all-zero}
 use Rattle.device.proofs.well_formed.all_zero.Statement.{statement}
 use Rattle.device.proofs.well_formed.all_zero.Tie as tie
 
@@ -15,41 +15,26 @@ abbrev Inv-loop : tie.InvT-loop
 Inv-loop from slots i₀ i = all-zero (drop from slots) ≡ all-zero (drop i slots)
 
 abbrev μ-loop : tie.MeasureT-loop
-μ-loop from slots i₀ i = 4 - i
-
-loop-holds : tie.Need-loop-holds Inv-loop μ-loop
-loop-holds c = refl
-
-mul-if1 : tie.Need-mul-if1 Inv-loop μ-loop
-mul-if1 c = omega arith
-
-array-read-if1 : tie.Need-array-read-if1 Inv-loop μ-loop
-array-read-if1 c = omega arith
+μ-loop from slots i₀ i = slot-count - i
 
 returns : tie.Need-returns Inv-loop μ-loop
 unfolding all-zero
 returns c =
-    let long : length (c .before .before .before .args .t1) ≡ 4 = c .before .before .before .good .0 .1 .0 .1 in
+    let long : length (c .before .before .before .args .t1) ≡ slot-count = c .before .before .before .good .0 .1 .0 .1 in
     let inside : c .before .before .loop .i < length (c .before .before .before .args .t1) = omega arith in
     rw (c .before .before .loop .inv, drop-cons {A = ℕ} _ _ 0 inside, ne-eqb _ _ (c .if1 .taken))
-
-add-i : tie.Need-add-i Inv-loop μ-loop
-add-i c = omega arith
-
-loop-less : tie.Need-loop-less Inv-loop μ-loop
-loop-less c = omega arith
 
 loop-again : tie.Need-loop-again Inv-loop μ-loop
 unfolding all-zero
 loop-again c =
-    let long : length (c .before .before .before .args .t1) ≡ 4 = c .before .before .before .good .0 .1 .0 .1 in
+    let long : length (c .before .before .before .args .t1) ≡ slot-count = c .before .before .before .good .0 .1 .0 .1 in
     let inside : c .before .before .loop .i < length (c .before .before .before .args .t1) = omega arith in
     rw (c .before .before .loop .inv, add-one, drop-cons {A = ℕ} _ _ 0 inside, eq-eqb _ _ (c .if1 .left))
 
 returns-2 : tie.Need-returns-2 Inv-loop μ-loop
 unfolding all-zero
 returns-2 c =
-    let long : length (c .before .before .args .t1) ≡ 4 = c .before .before .good .0 .1 .0 .1 in
+    let long : length (c .before .before .args .t1) ≡ slot-count = c .before .before .good .0 .1 .0 .1 in
     let past : length (c .before .before .args .t1) ≤ c .before .loop .i = omega arith in
     rw (c .before .loop .inv, drop-of-length-le _ past)
 
@@ -59,11 +44,11 @@ all-zero-spec =
     (tie.spec
     Inv-loop
     μ-loop
-    loop-holds
-    mul-if1
-    array-read-if1
+    (λ c. refl)
+    (λ c. omega arith)
+    (λ c. omega arith)
     returns
-    add-i
-    loop-less
+    (λ c. omega arith)
+    (λ c. omega arith)
     loop-again
     returns-2)

@@ -1,5 +1,4 @@
 -- `registers::control::capture` meets its contract. Assumes nothing.
--- Each return unfolds the definition and rewrites by what the calls gave and by the tests on the way there.
 use native.Mathlib.Nat.{div-one}
 use Rattle.registers.proofs.control.capture.Statement.{statement}
 use Rattle.registers.proofs.control.capture.Tie as tie

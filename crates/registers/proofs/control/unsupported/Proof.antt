@@ -1,37 +1,17 @@
 -- `registers::control::unsupported` meets its contract. Assumes nothing.
--- Each return unfolds the definition and rewrites by what the calls gave and by the tests on the way there.
 use borrow.Author.Needs.{needs}
 use borrow.Author.Tests.{eq-eqb, ne-eqb}
 use Rattle.registers.specs.Control.{unsupported}
 use Rattle.registers.proofs.control.unsupported.Statement.{statement}
 use Rattle.registers.proofs.control.unsupported.Tie as tie
 
-jpeg-requires : tie.Need-jpeg-requires
-jpeg-requires c κs = search needs
-
 returns : tie.Need-returns
 unfolding unsupported
-returns c =
-    rw (
-      ← c .before .jpeg .ensures,
-      c .if1 .taken,
-    )
-
-embedded-requires : tie.Need-embedded-requires
-embedded-requires c κs = search needs
+returns c = rw (← c .before .jpeg .ensures, c .if1 .taken)
 
 returns-2 : tie.Need-returns-2
 unfolding unsupported
-returns-2 c =
-    rw (
-      ← c .before .before .before .jpeg .ensures,
-      ← c .before .embedded .ensures,
-      c .before .before .if1 .left,
-      c .if2 .taken,
-    )
-
-fcrc-requires : tie.Need-fcrc-requires
-fcrc-requires c κs = search needs
+returns-2 c = rw (← c .before .before .before .jpeg .ensures, ← c .before .embedded .ensures, c .before .before .if1 .left, c .if2 .taken)
 
 returns-3 : tie.Need-returns-3
 unfolding unsupported
@@ -44,12 +24,6 @@ returns-3 c =
       c .before .before .if2 .left,
       eq-eqb _ _ (c .if3 .taken),
     )
-
-capture-requires : tie.Need-capture-requires
-capture-requires c κs = search needs
-
-enable-requires : tie.Need-enable-requires
-enable-requires c κs = search needs
 
 returns-4 : tie.Need-returns-4
 unfolding unsupported
@@ -84,13 +58,13 @@ pub unsupported-spec : {M : Type 1} → statement M
 unsupported-spec =
     tie.close
     (tie.spec
-    jpeg-requires
+    (λ c κs. search needs)
     returns
-    embedded-requires
+    (λ c κs. search needs)
     returns-2
-    fcrc-requires
+    (λ c κs. search needs)
     returns-3
-    capture-requires
-    enable-requires
+    (λ c κs. search needs)
+    (λ c κs. search needs)
     returns-4
     returns-5)

@@ -1,5 +1,4 @@
 -- `sampling::answers::landing` meets its contract. Assumes nothing.
--- Each return unfolds the definition and rewrites by the test on the way there.
 use borrow.Author.Needs.{needs}
 use borrow.Author.Tests.{eq-eqb, ne-eqb}
 use Rattle.sampling.specs.Parts.{landing-told}
@@ -10,15 +9,9 @@ returns : tie.Need-returns
 unfolding landing-told
 returns c = rw (eq-eqb _ _ (c .if1 .taken))
 
-cast-t4 : tie.Need-cast-t4
-cast-t4 c = search needs
-
-mul-t5 : tie.Need-mul-t5
-mul-t5 c = search needs
-
 returns-2 : tie.Need-returns-2
 unfolding landing-told
 returns-2 c = rw (ne-eqb _ _ (c .before .if1 .left))
 
 pub landing-spec : {M : Type 1} → statement M
-landing-spec = tie.close (tie.spec returns cast-t4 mul-t5 returns-2)
+landing-spec = tie.close (tie.spec returns (λ c. search needs) (λ c. search needs) returns-2)

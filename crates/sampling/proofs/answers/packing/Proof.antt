@@ -1,5 +1,4 @@
 -- `sampling::answers::packing` meets its contract. Assumes nothing.
--- Each return unfolds the definition and rewrites by what the call gave and by the tests on the way there.
 use borrow.Author.Needs.{needs}
 use borrow.Author.Tests.{eq-eqb, ne-eqb}
 use Rattle.sampling.specs.Parts.{packing-told}
@@ -10,9 +9,6 @@ returns : tie.Need-returns
 unfolding packing-told
 returns c = rw (eq-eqb _ _ (c .if1 .taken))
 
-newest-requires : tie.Need-newest-requires
-newest-requires c κs = search needs
-
 returns-2 : tie.Need-returns-2
 unfolding packing-told
 returns-2 c = rw (ne-eqb _ _ (c .before .before .before .before .before .if1 .left), eq-eqb _ _ (c .before .before .if2 .taken), ← c .newest .ensures)
@@ -22,4 +18,4 @@ unfolding packing-told
 returns-3 c = rw (ne-eqb _ _ (c .before .before .before .if1 .left), ne-eqb _ _ (c .if2 .left))
 
 pub packing-spec : {M : Type 1} → statement M
-packing-spec = tie.close (tie.spec returns newest-requires returns-2 returns-3)
+packing-spec = tie.close (tie.spec returns (λ c κs. search needs) returns-2 returns-3)

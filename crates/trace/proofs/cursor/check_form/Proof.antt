@@ -7,8 +7,7 @@ use Rattle.trace.proofs.cursor.check_form.Tie as tie
 
 returns : tie.Need-returns
 unfolding form-refusal
-returns c =
-    rw (lt-ltb _ _ (c .if1 .taken))
+returns c = rw (lt-ltb _ _ (c .if1 .taken))
 
 returns-2 : tie.Need-returns-2
 unfolding form-refusal
@@ -66,12 +65,7 @@ returns-5 c =
 
 returns-6 : tie.Need-returns-6
 unfolding form-refusal
-returns-6 c =
-    rw (
-      le-ltb _ _ (c .before .before .if1 .left),
-      ← c .before .marked .ensures,
-      c .if2 .left,
-    )
+returns-6 c = rw (le-ltb _ _ (c .before .before .if1 .left), ← c .before .marked .ensures, c .if2 .left)
 
 pub check-form-spec : {M : Type 1} → statement M
 check-form-spec =

@@ -6,13 +6,11 @@ use Rattle.trace.proofs.cursor.checked.Tie as tie
 
 returns : tie.Need-returns
 unfolding checked
-returns c =
-    rw (← c .before .bad-sample .ensures, c .if1 .taken)
+returns c = rw (← c .before .bad-sample .ensures, c .if1 .taken)
 
 returns-2 : tie.Need-returns-2
 unfolding checked
-returns-2 c =
-    rw (← c .before .bad-sample .ensures, c .if1 .left)
+returns-2 c = rw (← c .before .bad-sample .ensures, c .if1 .left)
 
 pub checked-spec : {M : Type 1} → statement M
 checked-spec = tie.close (tie.spec (λ c κs. search needs) returns returns-2)

@@ -36,5 +36,4 @@ returns-3 c =
     )
 
 pub marked-spec : {M : Type 1} → statement M
-marked-spec =
-    tie.close (tie.spec (λ c κs. search needs) (λ c κs. search needs) (λ c κs. search needs) returns returns-2 returns-3)
+marked-spec = tie.close (tie.spec (λ c κs. search needs) (λ c κs. search needs) (λ c κs. search needs) returns returns-2 returns-3)

@@ -1,9 +1,9 @@
 -- `trace::decoding::any_bad` meets its contract: a sample is bad exactly if one was found or one of those from i on is.
-use Prim.Native.Nat.{_+_, _-_, _*_}
+use Prim.Native.Nat.{_-_}
 use borrow.Author.Needs.{needs}
 use mathlib.Core.Bool.{_||_}
 use mathlib.Core.Logic.{⊎-elim}
-use mathlib.Core.Path.{_≡_, refl, sym, ap, _∙_}
+use mathlib.Core.Path.{_≡_, sym, ap, _∙_}
 use native.Mathlib.Omega.{arith}
 use Rattle.bits.proofs.Booleans.{or-unit, or-true}
 use Rattle.samples.specs.Samples.{bad-sample, any-bad}

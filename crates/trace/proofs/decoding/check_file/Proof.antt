@@ -24,6 +24,4 @@ unfolding file-refusal
 returns-3 c = rw (← c .before .before .before .before .check-form .ensures, c .before .before .enum-told .given .1, ← c .before .any-bad .ensures, c .if1 .left)
 
 pub check-file-spec : {M : Type 1} → statement M
-check-file-spec =
-    tie.close
-    (tie.spec (λ c κs. search needs) (λ c. search needs) (λ c. search needs) returns any-bad-requires returns-2 returns-3)
+check-file-spec = tie.close (tie.spec (λ c κs. search needs) (λ c. search needs) (λ c. search needs) returns any-bad-requires returns-2 returns-3)

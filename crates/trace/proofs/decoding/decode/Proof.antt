@@ -1,5 +1,5 @@
 -- `trace::decoding::decode` meets its contract: the samples so far were good and stand at the front of the array.
-use Prim.Native.Nat.{_+_, _-_, _*_}
+use Prim.Native.Nat.{_+_, _-_}
 use borrow.Author.Needs.{needs}
 use mathlib.Core.Path.{sym, ap, _∙_}
 use native.Mathlib.Omega.{arith}

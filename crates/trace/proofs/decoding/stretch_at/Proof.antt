@@ -20,6 +20,4 @@ unfolding give
 returns-2 c = rw (← c .before .before .before .check-form .ensures, c .before .form .given .1, never-zero (c .before .form .given .0 .0))
 
 pub stretch-at-spec : {M : Type 1} → statement M
-stretch-at-spec =
-    tie.close
-    (tie.spec (λ c κs. search needs) (λ c. search needs) (λ c. search needs) stretch-requires returns returns-2)
+stretch-at-spec = tie.close (tie.spec (λ c κs. search needs) (λ c. search needs) (λ c. search needs) stretch-requires returns returns-2)

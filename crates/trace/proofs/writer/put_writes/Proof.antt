@@ -1,5 +1,5 @@
 -- `trace::writer::put_writes` meets its contract.
-use Prim.Native.Nat.{_+_, _-_, _*_}
+use Prim.Native.Nat.{_-_}
 use lib.Seq.{sets}
 use native.Mathlib.Omega.{arith}
 use Rattle.trace.specs.Format.{header-length, write-bytes}

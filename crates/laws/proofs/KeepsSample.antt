@@ -1,0 +1,112 @@
+-- A sample keeps a well-formed device well-formed, and its FIFO laid out; it counts one sample.
+-- The idea: the sample is counted first, which leaves room for one line, one pixel and one word more. Assumes nothing.
+use mathlib.Core.Bool.{true}
+use mathlib.Core.List.{List}
+use mathlib.Core.Option.{Option, none, some}
+use mathlib.Core.Path.{_≡_, refl, sym, _∙_}
+use Prim.Native.Nat.{ℕ, _+_, _<_}
+use native.Mathlib.Omega.{arith}
+use lib.Dec.{ltb}
+use borrow.Author.Tests.{ltb-true}
+use Rattle.registers.specs.Control.{snapshot, enable}
+use Rattle.samples.specs.Samples.{bus-grant}
+use Rattle.output.specs.declared.Fate.{Fate}
+use Rattle.output.specs.declared.Fate.the-variants.{Held, Lost}
+use Rattle.output.specs.Output.{holding, with-held, contents, count-word, count-discarded, depth, OutputState, count-sample, with-counts, grant, Offered, offer, discard}
+use Rattle.output.specs.WellFormed.{Laid}
+use Rattle.output.proofs.WellFormed.{OutputOk, enabling-ok, count-sample-ok, grant-ok, held-ok, lost-ok}
+use Rattle.output.proofs.Untouched.{grant-untouched, offer-untouched, discard-laid}
+use Rattle.rules.specs.declared.Capture.{Capture}
+use Rattle.rules.specs.declared.Device.{Device}
+use Rattle.rules.specs.State.{device, capture-of, output-of}
+use Rattle.rules.specs.Capture.{capture-sample}
+use Rattle.rules.specs.Run.{lose-frame, after-word, full-word, complete, after-grant, counted, step}
+use Rattle.bits.proofs.Booleans.{by-cond, either}
+use Rattle.rules.proofs.WellFormed.{CaptureOk, WellFormed}
+use Rattle.laws.proofs.CaptureParts.{raise-ok, clear-capture-ok, close-frame-ok}
+use Rattle.laws.proofs.Moved.{sample-ok, sample-enable, word-enabled}
+
+-- Rule 9: OVR rises, the frame closes, and with CM 1 CAPTURE is cleared.
+lose-frame-ok : {n : ℕ} {s : Capture} → CaptureOk n s → CaptureOk n (lose-frame s)
+unfolding lose-frame
+lose-frame-ok {n} {s} h =
+    let up = raise-ok 1 (omega arith) h in
+    close-frame-ok (either (CaptureOk n) (snapshot (s .registers .cr)) (clear-capture-ok up) up)
+
+-- Rule 9, with a word more to be counted.
+full-word-ok : (v : ℕ) (s : Capture) (x : OutputState) → x .output .counts .completed < x .output .counts .samples
+    → enable (s .registers .cr) ≡ true → CaptureOk (x .output .counts .samples) s → OutputOk true x → WellFormed (full-word v s x .device)
+unfolding full-word offer after-word holding with-held discard count-word count-discarded with-counts
+full-word-ok v s x more on c q =
+    by-cond (λ (r : Offered). WellFormed (after-word (r .fate) v s (r .state) .device)) (ltb (x .output .held) depth) _ _
+    (λ t. record { capture = c; output = rw on (held-ok q more v (ltb-true (x .output .held) depth t)) })
+    (λ t. record { capture = lose-frame-ok c; output = lost-ok q more v })
+
+complete-ok : (o : Option ℕ) (s : Capture) (x : OutputState) → x .output .counts .completed < x .output .counts .samples
+    → ((v : ℕ) → o ≡ some v → enable (s .registers .cr) ≡ true)
+    → CaptureOk (x .output .counts .samples) s → OutputOk (enable (s .registers .cr)) x → WellFormed (complete o s x .device)
+unfolding complete
+complete-ok none s x more on c q = record { capture = c; output = q }
+complete-ok (some v) s x more on c q = full-word-ok v s x more (on v refl) c (rw (on v refl) at q)
+
+pub step-keeps : (d : Device) (buffer : List ℕ) (w : ℕ) → WellFormed d → WellFormed (step d buffer w .device)
+unfolding step after-grant counted count-sample with-counts
+step-keeps d buffer w h =
+    let s = capture-of d in
+    let e = enable (s .registers .cr) in
+    let x = counted (output-of d) in
+    let g = grant (bus-grant w) e x buffer in
+    let same = sample-enable s w in
+    let leaves = grant-untouched (bus-grant w) e x buffer in
+    let q : OutputOk e (g .state) = grant-ok (count-sample-ok (h .output)) (bus-grant w) e buffer in
+    complete-ok (capture-sample s w .word) (capture-sample s w .state) (g .state)
+    (rw (leaves .samples, leaves .completed) (omega (arith, h .output .completed)))
+    (λ v is. same ∙ word-enabled s w v is)
+    (rw (leaves .samples) (sample-ok w (h .capture)))
+    (enabling-ok q (λ off. sym same ∙ off))
+
+-- The FIFO stays laid out in the slots.
+pub counted-laid : {x : OutputState} → Laid x → Laid (counted x)
+unfolding counted count-sample with-counts contents
+counted-laid l = record { fits = l .fits; slots = l .slots }
+
+complete-laid : (o : Option ℕ) (s : Capture) (x : OutputState) → Laid x → Laid (output-of (complete o s x .device))
+unfolding complete full-word offer after-word
+complete-laid none s x l = l
+complete-laid (some v) s x l = go (offer v x .fate)
+  where
+    go : (f : Fate) → Laid (output-of (after-word f v s (offer v x .state) .device))
+    go Held = offer-untouched v x .laid l
+    go Lost = discard-laid 1 (offer v x .state)
+
+pub step-laid : (d : Device) (buffer : List ℕ) (w : ℕ) → Laid (output-of d) → Laid (output-of (step d buffer w .device))
+unfolding step after-grant counted
+step-laid d buffer w l = complete-laid _ _ _ (grant-untouched (bus-grant w) _ (counted (output-of d)) buffer .laid (counted-laid l))
+
+-- Rule 9 leaves the words landed as they are.
+pub complete-landed : (o : Option ℕ) (s : Capture) (x : OutputState)
+    → complete o s x .device .core .output .counts .landed ≡ x .output .counts .landed
+unfolding complete full-word after-word discard holding with-held count-discarded with-counts
+complete-landed none s x = refl
+complete-landed (some v) s x = go (offer v x .fate) ∙ offer-untouched v x .landed
+  where
+    go : (f : Fate) → after-word f v s (offer v x .state) .device .core .output .counts .landed ≡ offer v x .state .output .counts .landed
+    go Held = refl
+    go Lost = refl
+
+-- One sample more is counted.
+complete-samples : (o : Option ℕ) (s : Capture) (x : OutputState)
+    → complete o s x .device .core .output .counts .samples ≡ x .output .counts .samples
+unfolding complete full-word after-word discard holding with-held count-discarded with-counts
+complete-samples none s x = refl
+complete-samples (some v) s x = go (offer v x .fate) ∙ offer-untouched v x .samples
+  where
+    go : (f : Fate) → after-word f v s (offer v x .state) .device .core .output .counts .samples ≡ offer v x .state .output .counts .samples
+    go Held = refl
+    go Lost = refl
+
+pub step-samples : (d : Device) (buffer : List ℕ) (w : ℕ)
+    → step d buffer w .device .core .output .counts .samples ≡ d .core .output .counts .samples + 1
+unfolding step after-grant counted count-sample with-counts
+step-samples d buffer w =
+    complete-samples _ _ _ ∙ grant-untouched (bus-grant w) (enable (d .core .capture .registers .cr)) (counted (output-of d)) buffer .samples

@@ -1,0 +1,160 @@
+-- What a sample makes of the capture state (`Moved`): a well-formed one stays so, with one more allowed in the bound on lines and pixels; CR stays but for
+-- CAPTURE, OVR and the pins stay, and at most one datum is packed. The idea: rules 3 to 5 pack none (`Kept`), and rules 6 to 8 leave the registers. Assumes nothing.
+use mathlib.Core.Bool.{Bool, true, _&&_}
+use mathlib.Core.Option.{Option, none, some}
+use mathlib.Core.Path.{_≡_, refl, _∙_}
+use Prim.Native.Nat.{ℕ, _+_, _/_, _≤_}
+use native.Mathlib.Omega.{arith}
+use lib.Dec.{ltb}
+use lib.Pow.{pow-pos}
+use borrow.Author.Tests.{ltb-true, ltb-false}
+use Rattle.bits.specs.Bits.{bit}
+use Rattle.registers.specs.Control.{edm, enable}
+use Rattle.samples.specs.Samples.{pixel-data}
+use Rattle.packing.specs.Packing.{per-word}
+use Rattle.packing.proofs.Lanes.{per-word-positive}
+use Rattle.rules.specs.declared.Syncs.{Syncs}
+use Rattle.rules.specs.declared.Scan.{Scan}
+use Rattle.rules.specs.declared.Frame.{Frame}
+use Rattle.rules.specs.declared.Frame.the-variants.{Closed, Open}
+use Rattle.rules.specs.declared.Capture.{Capture}
+use Rattle.rules.specs.State.{no-partial, is-taken, with-pins, with-syncs, with-frame, with-partial}
+use Rattle.rules.specs.Capture.{Captured, no-word, working-edge, enabled, remember-pins, blanking, any-blanks, line-begins, next-pixel, captured, pack, pixel, pixel-in, pixel-edge, remember-syncs, at-edge, capture-sample}
+use Rattle.bits.proofs.Booleans.{and-true, by-cond, either}
+use Rattle.rules.proofs.WellFormed.{CaptureOk}
+use Rattle.laws.proofs.RegisterValues.{same-edm, half-setup, half-enable}
+use Rattle.laws.proofs.Packing.{packed-partial}
+use Rattle.laws.proofs.CaptureParts.{pins-syncs-ok, partial-ok, scan-ok}
+use Rattle.laws.proofs.Kept.{Kept, kept, early-kept}
+
+-- Without a word something counted grows by at most 1; a word comes when it would reach q, and leaves it at 0.
+abbrev pub Paced : ℕ → ℕ → ℕ → Option ℕ → Type 0
+Paced q before after none = after ≤ before + 1
+Paced q before after (some v) = (q ≤ before + 1) × (after ≡ 0)
+
+pub record Moved (s : Capture) (c : Captured) : Type 0 where
+  pub ok : (n : ℕ) → CaptureOk n s → CaptureOk (n + 1) (c .state)
+  pub half : c .state .registers .cr / 2 ≡ s .registers .cr / 2
+  pub overrun : bit 1 (c .state .registers .ris) ≡ bit 1 (s .registers .ris)
+  pub pins : c .state .pins ≡ s .pins
+  pub paced : Paced (per-word (edm (s .registers .cr))) (s .partial .count) (c .state .partial .count) (c .word)
+
+-- After rules that keep: the same of the state before them.
+same-pace : (q p p′ a : ℕ) (o : Option ℕ) → p′ ≤ p → Paced q p′ a o → Paced q p a o
+same-pace q p p′ a none le h = omega arith
+same-pace q p p′ a (some v) le h = (omega arith, h .1)
+
+after : {s t : Capture} {c : Captured} → Kept s t → Moved t c → Moved s c
+after {s} {t} {c} k m =
+    record {
+      ok = λ n h. m .ok n (k .ok n h);
+      half = m .half ∙ k .half;
+      overrun = m .overrun ∙ k .overrun;
+      pins = m .pins ∙ k .pins;
+      paced = same-pace _ _ _ _ (c .word) (k .fewer) (rw (same-edm _ _ (half-setup _ _ (k .half))) at (m .paced));
+    }
+
+grow : {n : ℕ} {s : Capture} → CaptureOk n s → CaptureOk (n + 1) s
+unfolding with-pins with-syncs
+grow {s = s} h = pins-syncs-ok (s .pins) (s .syncs) (omega arith) h
+
+no-word-moved : {s t : Capture} → Kept s t → Moved s (no-word t)
+unfolding no-word
+no-word-moved k = record { ok = λ n h. grow (k .ok n h); half = k .half; overrun = k .overrun; pins = k .pins; paced = omega arith }
+
+-- Rule 6.
+next-pixel-ok : {n : ℕ} {s : Capture} (taken : Bool) (f : Scan) → s .frame ≡ Open taken f → CaptureOk n s
+    → CaptureOk (n + 1) (with-frame (Open taken (next-pixel s f)) s)
+unfolding next-pixel
+next-pixel-ok {n} {s} taken f in-f h =
+    let fl : f .lines ≤ n = rw in-f at (h .lines) in
+    let fp : f .pixels ≤ n = rw in-f at (h .pixels) in
+    either (λ (g : Scan). CaptureOk (n + 1) (with-frame (Open taken g) s)) (line-begins s f)
+    (scan-ok taken f _ in-f (omega arith) (omega arith) h)
+    (scan-ok taken f _ in-f (omega arith) (omega arith) h)
+
+-- Rule 8: the well-formed state, and the pace.
+pack-ok : {n : ℕ} {s : Capture} (x : ℕ) → is-taken (s .frame) ≡ true → CaptureOk n s → CaptureOk n (pack s x .state)
+unfolding pack no-word
+pack-ok {n} {s} x taken h =
+    let c = s .partial .count in
+    let full = per-word (edm (s .registers .cr)) in
+    by-cond (λ (r : Captured). CaptureOk n (r .state)) (ltb (c + 1) full) _ _
+    (λ t. partial-ok _ (packed-partial s x h (ltb-true (c + 1) full t)) (ltb-true (c + 1) full t) (λ pos. taken) h)
+    (λ t. partial-ok no-partial (pow-pos _) (per-word-positive _) (λ pos. taken) h)
+
+record Packed (s : Capture) (c : Captured) : Type 0 where
+  registers : c .state .registers ≡ s .registers
+  pins : c .state .pins ≡ s .pins
+  paced : Paced (per-word (edm (s .registers .cr))) (s .partial .count) (c .state .partial .count) (c .word)
+
+pack-paced : (s : Capture) (x : ℕ) → Packed s (pack s x)
+unfolding pack no-word with-partial
+pack-paced s x =
+    let p = s .partial .count in
+    let q = per-word (edm (s .registers .cr)) in
+    by-cond (Packed s) (ltb (p + 1) q) _ _
+    (λ short. record { registers = refl; pins = refl; paced = omega arith })
+    (λ full. record { registers = refl; pins = refl; paced = (ltb-false (p + 1) q full, refl) })
+
+pixel-moved : (s : Capture) (taken : Bool) (f : Scan) (x : ℕ) → s .frame ≡ Open taken f → Moved s (pixel s taken f x)
+unfolding pixel captured with-frame no-word
+pixel-moved s taken f x in-f =
+    let next = with-frame (Open taken (next-pixel s f)) s in
+    let p = pack-paced next x in
+    by-cond (Moved s) (captured s taken (next-pixel s f)) _ _
+    (λ t.
+    record {
+      ok = λ n h. pack-ok x (and-true _ _ t .0) (next-pixel-ok taken f in-f h);
+      half = rw (p .registers);
+      overrun = rw (p .registers);
+      pins = p .pins;
+      paced = p .paced;
+    })
+    (λ t. record { ok = λ n h. next-pixel-ok taken f in-f h; half = refl; overrun = refl; pins = refl; paced = omega arith })
+
+pixel-in-moved : (f : Frame) (s : Capture) (now : Syncs) (x : ℕ) → s .frame ≡ f → Moved s (pixel-in f s now x)
+unfolding pixel-in
+pixel-in-moved Closed s now x in-f = no-word-moved (kept s)
+pixel-in-moved (Open taken f) s now x in-f = either (Moved s) (any-blanks now) (no-word-moved (kept s)) (pixel-moved s taken f x in-f)
+
+-- The syncs remembered.
+syncs-moved : {s : Capture} (c : Captured) (now : Syncs) → Moved s c → Moved s (remember-syncs now c)
+unfolding remember-syncs with-syncs with-pins
+syncs-moved c now m =
+    record {
+      ok = λ n h. pins-syncs-ok (c .state .pins) now (omega arith) (m .ok n h);
+      half = m .half;
+      overrun = m .overrun;
+      pins = m .pins;
+      paced = m .paced;
+    }
+
+-- Rules 3 to 8.
+pub at-edge-moved : (s : Capture) (now : Syncs) (x : ℕ) → Moved s (at-edge s now x)
+unfolding at-edge pixel-edge
+at-edge-moved s now x = syncs-moved _ now (after (early-kept s now) (pixel-in-moved _ _ now x refl))
+
+-- Rules 2 to 8, once the pins are remembered.
+pub sample-moved : (s : Capture) (w : ℕ) → Moved (remember-pins w s) (capture-sample s w)
+unfolding capture-sample
+sample-moved s w =
+    either (Moved (remember-pins w s)) (working-edge s w && enabled s)
+    (at-edge-moved _ (blanking s w) (pixel-data w))
+    (no-word-moved (kept _))
+
+pub sample-ok : {n : ℕ} {s : Capture} (w : ℕ) → CaptureOk n s → CaptureOk (n + 1) (capture-sample s w .state)
+unfolding remember-pins with-pins with-syncs
+sample-ok {n} {s} w h = sample-moved s w .ok n (pins-syncs-ok _ (s .syncs) (omega arith) h)
+
+-- ENABLE stays, and a word is completed with ENABLE 1 only.
+pub sample-enable : (s : Capture) (w : ℕ) → enable (capture-sample s w .state .registers .cr) ≡ enable (s .registers .cr)
+unfolding remember-pins with-pins
+sample-enable s w = half-enable _ _ (sample-moved s w .half)
+
+pub word-enabled : (s : Capture) (w v : ℕ) → capture-sample s w .word ≡ some v → enable (s .registers .cr) ≡ true
+unfolding capture-sample no-word
+word-enabled s w v =
+    by-cond (λ (c : Captured). c .word ≡ some v → enable (s .registers .cr) ≡ true) (working-edge s w && enabled s) _ _
+    (λ t is. and-true (working-edge s w) (enabled s) t .1)
+    (λ t is. let z : _≡_ {A = ℕ} 0 1 = cc in absurd (omega arith))

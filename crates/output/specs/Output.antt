@@ -1,0 +1,142 @@
+-- Words on their way to memory (document 01, "One sample" and "Memory and counts"): rule 1, and of rule 9 what is no camera's matter. The FIFO is defined on
+-- its contents, the list of the held words.
+use mathlib.Core.Bool.{Bool, cond, _&&_}
+use mathlib.Core.List.{List, [], _∷_, _++_}
+use mathlib.Core.Option.{Option, none, some}
+use Prim.Native.Nat.{ℕ, _+_, _-_, _*_, _/_, _%_}
+use lib.Dec.{ltb, leb}
+use lib.ListN.{length, take, drop, getD, replicate}
+use Rattle.output.specs.declared.Counts.{Counts}
+use Rattle.output.specs.declared.Output.{Output}
+use Rattle.output.specs.declared.Fate.{Fate}
+use Rattle.output.specs.declared.Fate.the-variants.{Held, Lost}
+
+-- How many slots there are, and how many words the FIFO holds at most (the paper decides; 004, 32.3.10 has 8).
+abbrev pub slot-count : ℕ
+slot-count = 4
+
+abbrev pub depth : ℕ
+depth = 4
+
+-- Number held, place and counts, with the slots.
+pub record OutputState : Type 0 where
+  pub output : Output
+  pub slots : List ℕ
+
+-- The held words, oldest first.
+unfoldable pub contents : OutputState → List ℕ
+contents x = take (x .output .held) (x .slots)
+
+-- Words laid out in the slots: the words, then zeros.
+unfoldable pub laid : List ℕ → List ℕ
+laid vs = vs ++ replicate (slot-count - length vs) 0
+
+-- The output with another number held, and with n words vs held.
+unfoldable pub with-held : ℕ → Output → Output
+with-held n o = record { held = n; place = o .place; counts = o .counts }
+
+unfoldable pub holding : ℕ → List ℕ → Output → OutputState
+holding n vs o = record { output = with-held n o; slots = laid vs }
+
+-- The oldest word leaves; a word is taken in behind the others.
+abbrev pub pop : List ℕ → List ℕ
+pop vs = drop 1 vs
+
+abbrev pub push : ℕ → List ℕ → List ℕ
+push v vs = vs ++ v ∷ []
+
+-- At reset: nothing is held, all counts and places are 0.
+unfoldable pub fresh-output : OutputState
+fresh-output =
+    holding 0 []
+    (record { held = 0; place = 0; counts = record { samples = 0; completed = 0; landed = 0; discarded = 0 } })
+
+-- The output with other counts.
+unfoldable pub with-counts : Counts → Output → Output
+with-counts c o = record { held = o .held; place = o .place; counts = c }
+
+-- One more sample.
+unfoldable pub count-sample : Output → Output
+count-sample o =
+    let c = o .counts in
+    with-counts (record { samples = c .samples + 1; completed = c .completed; landed = c .landed; discarded = c .discarded }) o
+
+-- One more word completed: the number of times rule 9 was reached.
+unfoldable pub count-word : Output → Output
+count-word o =
+    let c = o .counts in
+    with-counts (record { samples = c .samples; completed = c .completed + 1; landed = c .landed; discarded = c .discarded }) o
+
+-- Some more words discarded.
+unfoldable pub count-discarded : ℕ → Output → Output
+count-discarded n o =
+    let c = o .counts in
+    with-counts (record { samples = c .samples; completed = c .completed; landed = c .landed; discarded = c .discarded + n }) o
+
+-- One more word landed: the next one goes to the next place.
+unfoldable pub with-place : ℕ → Output → Output
+with-place k o = record { held = o .held; place = k; counts = o .counts }
+
+unfoldable pub count-landed : Output → Output
+count-landed o =
+    let c = o .counts in
+    with-place (o .place + 1)
+    (with-counts (record { samples = c .samples; completed = c .completed; landed = c .landed + 1; discarded = c .discarded }) o)
+
+-- A word's four bytes, little-endian.
+unfoldable pub bytes : ℕ → List ℕ
+bytes v = v % 256 ∷ v / 256 % 256 ∷ v / 65536 % 256 ∷ v / 16777216 % 256 ∷ []
+
+-- Word k of the frame buffer, bytes 4k to 4k + 3. "Room" means that those bytes exist.
+unfoldable pub room : ℕ → List ℕ → Bool
+room k buffer = leb (4 * k + 4) (length buffer)
+
+unfoldable pub stored : ℕ → ℕ → List ℕ → List ℕ
+stored k v buffer = take (4 * k) buffer ++ bytes v ++ drop (4 * k + 4) buffer
+
+-- The word whose four bytes stand from a byte of a memory on; a byte beyond the end counts as 0.
+unfoldable pub word-at : List ℕ → ℕ → ℕ
+word-at memory at =
+    getD memory at 0 + 256 * getD memory (at + 1) 0 + 65536 * getD memory (at + 2) 0 + 16777216 * getD memory (at + 3) 0
+
+-- The place at which a word that leaves the FIFO lands.
+abbrev pub place-of : ℕ → Output → ℕ
+place-of v o = o .place
+
+-- What rule 1 makes of output and frame buffer, and the byte of the buffer at which a word landed, if one did.
+pub record Granted : Type 0 where
+  pub state : OutputState
+  pub buffer : List ℕ
+  pub landing : Option ℕ
+
+unfoldable pub no-landing : OutputState → List ℕ → Granted
+no-landing x buffer = record { state = x; buffer = buffer; landing = none }
+
+-- Rule 1: the oldest held word, v, goes to memory, and the others, vs, stay.
+unfoldable pub lands : ℕ → List ℕ → Output → List ℕ → Granted
+lands v vs o buffer =
+    record { state = holding (o .held - 1) vs (count-landed o); buffer = stored (place-of v o) v buffer; landing = some (4 * place-of v o) }
+
+-- Rule 1, by the held words: one is held, and there is room for it.
+unfoldable pub oldest-lands : List ℕ → OutputState → List ℕ → Granted
+oldest-lands [] x buffer = no-landing x buffer
+oldest-lands (v ∷ vs) x buffer = cond (room (place-of v (x .output)) buffer) (lands v vs (x .output) buffer) (no-landing x buffer)
+
+-- Rule 1 (004, 32.3.10): the bus grants and ENABLE is 1. CAPTURE plays no part.
+unfoldable pub grant : Bool → Bool → OutputState → List ℕ → Granted
+grant granted enabled x buffer = cond (granted && enabled) (oldest-lands (contents x) x buffer) (no-landing x buffer)
+
+-- Rule 9: a full word is counted as completed. With fewer held than the depth it is held; else it is lost.
+pub record Offered : Type 0 where
+  pub state : OutputState
+  pub fate : Fate
+
+unfoldable pub offer : ℕ → OutputState → Offered
+offer v x =
+    cond (ltb (x .output .held) depth)
+    (record { state = holding (x .output .held + 1) (push v (contents x)) (count-word (x .output)); fate = Held })
+    (record { state = record { output = count-word (x .output); slots = x .slots }; fate = Lost })
+
+-- The held words and some more besides are discarded.
+unfoldable pub discard : ℕ → OutputState → OutputState
+discard more x = holding 0 [] (count-discarded (x .output .held + more) (x .output))

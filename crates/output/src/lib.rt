@@ -1,0 +1,246 @@
+// Words on their way to memory: counts, a FIFO and the next place in the frame buffer. Rule 1, given the grant and ENABLE as truth values, and of rule 9 the
+// count, the test for full, holding and discarding; what a lost word does besides is the rule of the module that lost it. Nothing here knows of a camera.
+// The slots are lent and the rest goes by value (docs/SPEED.md). The functions that change them are for the crates of this repository, which call them on
+// well-formed states; each states its result as an equation with its definition.
+ghost use mathlib.Core.Path.{_≡_};
+ghost use Prim.Native.Nat.{_+_, _-_, _≤_, _<_, _^_};
+ghost use mathlib.Core.Bool.{true};
+ghost use mathlib.Core.List.{[], _∷_, _++_};
+ghost use lib.ListN.{length, take, drop, getD};
+ghost use Rattle.output.specs.Output as rules;
+ghost use Rattle.output.specs.WellFormed.{Laid};
+ghost use Rattle.output.specs.Answers as answers;
+
+// How many slots there are, and how many words the FIFO holds at most.
+pub const SLOTS: usize = 4;
+
+pub const DEPTH: u32 = 4;
+
+// Counts since reset.
+pub struct Counts {
+    pub completed: u32,
+    pub landed: u32,
+    pub samples: u32,
+    pub discarded: u32,
+}
+
+// The number of words held, the place of the next word to land, since the last re-arming, and the counts. The held words stand in the first slots, oldest
+// first. The order of the fields means nothing to the rules (docs/SPEED.md).
+pub struct Output {
+    pub held: u32,
+    pub place: u32,
+    pub counts: Counts,
+}
+
+// What became of a full word.
+pub enum Fate {
+    Held,
+    Lost,
+}
+
+// The output after a full word, and what became of the word.
+pub struct Offered {
+    pub output: Output,
+    pub fate: Fate,
+}
+
+// The same output, each field by itself: so the compiler keeps them apart (docs/SPEED.md).
+pub fn apart(o: Output) -> Output
+    ensures { λ r. ⌜ r ≡ o ⌝ }
+{
+    Output {
+        held: o.held,
+        place: o.place,
+        counts: Counts {
+            completed: o.counts.completed,
+            landed: o.counts.landed,
+            samples: o.counts.samples,
+            discarded: o.counts.discarded,
+        },
+    }
+}
+
+// One more sample.
+pub fn count_sample(o: Output) -> Output
+    requires { ⌜ o .counts .samples + 1 < 2 ^ 32 ⌝ }
+    ensures { λ r. ⌜ r ≡ rules.count-sample o ⌝ }
+{
+    let mut counted = apart(o);
+    let samples = o.counts.samples + 1;
+    counted.counts.samples = samples;
+    counted
+}
+
+// The slots moved down by one.
+fn move_down(slots: &mut [u32; SLOTS])
+    requires { ⌜ length (now slots) ≡ rules.slot-count ⌝ }
+    ensures { λ _. ⌜ now (slots .exit) ≡ drop 1 (now (slots .entry)) ++ 0 ∷ [] ⌝ }
+{
+    let mut i = 0;
+    while i + 1 < SLOTS {
+        slots[i] = slots[i + 1];
+        i += 1;
+    }
+    slots[SLOTS - 1] = 0;
+}
+
+// Whether word k has room in a frame buffer of some length.
+fn room(k: u32, buffer: &[u8]) -> bool
+    ensures { λ r. ⌜ r ≡ rules.room k (now (buffer .entry)) ⌝ }
+{
+    4 * (k as usize) + 4 <= buffer.len()
+}
+
+// A word stored little-endian from a byte on.
+fn store(buffer: &mut [u8], at: usize, v: u32)
+    requires { ⌜ at + 4 ≤ length (now buffer) ⌝ }
+    ensures { λ _. ⌜ now (buffer .exit) ≡ take at (now (buffer .entry)) ++ rules.bytes v ++ drop (at + 4) (now (buffer .entry)) ⌝ }
+{
+    buffer[at] = (v % 256) as u8;
+    buffer[at + 1] = (v / 256 % 256) as u8;
+    buffer[at + 2] = (v / 65536 % 256) as u8;
+    buffer[at + 3] = (v / 16777216 % 256) as u8;
+}
+
+// One word more has landed, and one less is held.
+fn landed(o: Output) -> Output
+    requires { ⌜ (0 < o .held) × (o .place + 1 < 2 ^ 32) × (o .counts .landed + 1 < 2 ^ 32) ⌝ }
+    ensures { λ r. ⌜ r ≡ rules.with-held (o .held - 1) (rules.count-landed o) ⌝ }
+{
+    let mut after = apart(o);
+    let held = o.held - 1;
+    let place = o.place + 1;
+    let landed = o.counts.landed + 1;
+    after.held = held;
+    after.place = place;
+    after.counts.landed = landed;
+    after
+}
+
+// Rule 1 where the bus grants and ENABLE is 1: the oldest held word, if there is one and it has room, goes to the next place.
+fn oldest_lands(o: Output, slots: &mut [u32; SLOTS], buffer: &mut [u8]) -> Output
+    requires { ⌜ Laid (answers.left o (now slots)) ⌝ }
+    requires { ⌜ (o .place + 1 < 2 ^ 32) × (o .counts .landed + 1 < 2 ^ 32) ⌝ }
+    ensures { λ r. ⌜ answers.left r (now (slots .exit)) ≡ rules.grant true true (answers.left o (now (slots .entry))) (now (buffer .entry)) .state ⌝ }
+    ensures { λ _. ⌜ now (buffer .exit) ≡ rules.grant true true (answers.left o (now (slots .entry))) (now (buffer .entry)) .buffer ⌝ }
+{
+    if 0 < o.held {
+        if room(o.place, buffer) {
+            let at = 4 * (o.place as usize);
+            store(buffer, at, slots[0]);
+            move_down(slots);
+            return landed(o);
+        }
+        return o;
+    }
+    o
+}
+
+// Rule 1.
+pub fn grant(
+    granted: bool,
+    enabled: bool,
+    o: Output,
+    slots: &mut [u32; SLOTS],
+    buffer: &mut [u8],
+) -> Output
+    requires { ⌜ Laid (answers.left o (now slots)) ⌝ }
+    requires { ⌜ (o .place + 1 < 2 ^ 32) × (o .counts .landed + 1 < 2 ^ 32) ⌝ }
+    ensures { λ r. ⌜ answers.left r (now (slots .exit)) ≡ rules.grant granted enabled (answers.left o (now (slots .entry))) (now (buffer .entry)) .state ⌝ }
+    ensures { λ _. ⌜ now (buffer .exit) ≡ rules.grant granted enabled (answers.left o (now (slots .entry))) (now (buffer .entry)) .buffer ⌝ }
+{
+    if granted {
+        if enabled {
+            return oldest_lands(o, slots, buffer);
+        }
+        return o;
+    }
+    o
+}
+
+// One word more is completed.
+fn count_word(o: Output) -> Output
+    requires { ⌜ o .counts .completed + 1 < 2 ^ 32 ⌝ }
+    ensures { λ r. ⌜ r ≡ rules.count-word o ⌝ }
+{
+    let mut counted = apart(o);
+    let completed = o.counts.completed + 1;
+    counted.counts.completed = completed;
+    counted
+}
+
+// A word more is held.
+fn one_more(o: Output) -> Output
+    requires { ⌜ o .held + 1 < 2 ^ 32 ⌝ }
+    ensures { λ r. ⌜ r ≡ rules.with-held (o .held + 1) o ⌝ }
+{
+    let mut after = apart(o);
+    let held = o.held + 1;
+    after.held = held;
+    after
+}
+
+// Rule 9: a full word is counted, and held where fewer than the depth are.
+pub fn offer(v: u32, o: Output, slots: &mut [u32; SLOTS]) -> Offered
+    requires { ⌜ Laid (answers.left o (now slots)) ⌝ }
+    requires { ⌜ o .counts .completed + 1 < 2 ^ 32 ⌝ }
+    ensures { λ r. ⌜ answers.offered r (now (slots .exit)) ≡ rules.offer v (answers.left o (now (slots .entry))) ⌝ }
+{
+    let counted = count_word(o);
+    if o.held < DEPTH {
+        let at = o.held as usize;
+        slots[at] = v;
+        return Offered {
+            output: one_more(counted),
+            fate: Fate::Held,
+        };
+    }
+    Offered {
+        output: counted,
+        fate: Fate::Lost,
+    }
+}
+
+// The held words and some more besides are discarded.
+pub fn discard(more: u32, o: Output, slots: &mut [u32; SLOTS]) -> Output
+    requires { ⌜ o .counts .discarded + o .held + more < 2 ^ 32 ⌝ }
+    ensures { λ r. ⌜ answers.left r (now (slots .exit)) ≡ rules.discard more (answers.left o (now (slots .entry))) ⌝ }
+{
+    *slots = [0; SLOTS];
+    let mut after = apart(o);
+    let discarded = o.counts.discarded + o.held + more;
+    after.counts.discarded = discarded;
+    after.held = 0;
+    after
+}
+
+// A byte of a memory; 0 beyond its end.
+fn byte(memory: &[u8], at: usize) -> u8
+    ensures { λ r. ⌜ r ≡ getD (now (memory .entry)) at 0 ⌝ }
+{
+    if at < memory.len() {
+        return memory[at];
+    }
+    0
+}
+
+fn wide(x: u8) -> u32
+    ensures { λ r. ⌜ r ≡ x ⌝ }
+    ensures { λ r. ⌜ r < 2 ^ 8 ⌝ }
+{
+    x as u32
+}
+
+// A landed word read back: the one whose four bytes stand from a byte of a memory on.
+pub fn word_at(memory: &[u8], at: usize) -> u32
+    ensures { λ r. ⌜ r ≡ rules.word-at (now (memory .entry)) at ⌝ }
+{
+    if at < memory.len() {
+        let first = wide(byte(memory, at));
+        let second = wide(byte(memory, at + 1));
+        let third = wide(byte(memory, at + 2));
+        let fourth = wide(byte(memory, at + 3));
+        return first + 256 * second + 65536 * third + 16777216 * fourth;
+    }
+    0
+}

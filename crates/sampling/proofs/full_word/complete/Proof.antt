@@ -1,0 +1,16 @@
+-- `sampling::full_word::complete` meets its contract. Assumes nothing.
+use borrow.Author.Needs.{needs}
+use Rattle.rules.specs.Run.{complete}
+use Rattle.sampling.proofs.full_word.complete.Statement.{statement}
+use Rattle.sampling.proofs.full_word.complete.Tie as tie
+
+returns : tie.Need-returns
+unfolding complete
+returns c = rw (c .enum-told .given .1)
+
+returns-2 : tie.Need-returns-2
+unfolding complete
+returns-2 c = rw (c .before .before .before .word .given .1) (c .full-word .ensures)
+
+pub complete-spec : {M : Type 1} → statement M
+complete-spec = tie.close (tie.spec (λ c. search needs) returns (λ c. search needs) (λ c κs. search needs) returns-2)

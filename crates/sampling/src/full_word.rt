@@ -1,0 +1,76 @@
+// Rule 9: a full word is held, or there is an overrun.
+ghost use mathlib.Core.Path.{_≡_};
+ghost use Prim.Native.Nat.{_+_, _≤_, _<_, _^_};
+ghost use Rattle.output.specs.Answers.{left};
+ghost use Rattle.output.specs.WellFormed.{Laid};
+ghost use Rattle.rules.specs.Run as rules;
+ghost use Rattle.capture.specs.Answers as capture-answers;
+ghost use Rattle.sampling.specs.Answers as answers;
+use capture::Captured;
+use capture::Word;
+use capture::apart;
+use capture::frame::clear_capture;
+use capture::frame::close_frame;
+use capture::syncs::raise_ovr;
+use output::Fate;
+use output::Output;
+use output::SLOTS;
+use output::discard;
+use output::offer;
+use registers::control;
+use rules::Capture;
+use rules::Core;
+
+// OVR rises, and the frame closes without FRAME; with CM 1, CAPTURE becomes 0.
+fn lose_frame(s: Capture) -> Capture
+    requires { ⌜ s .registers .ris ≤ 31 ⌝ }
+    ensures { λ r. ⌜ r ≡ rules.lose-frame s ⌝ }
+{
+    if control::snapshot(s.registers.cr) {
+        return close_frame(clear_capture(raise_ovr(s)));
+    }
+    close_frame(raise_ovr(s))
+}
+
+// By what became of the word: it is held; or it is lost, and with it the held words and the frame.
+fn full_word(v: u32, s: Capture, o: Output, slots: &mut [u32; SLOTS]) -> Core
+    requires { ⌜ Laid (left o (now slots)) ⌝ }
+    requires { ⌜ (s .registers .ris ≤ 31) × (o .counts .completed + 1 < 2 ^ 32) × (o .counts .discarded + o .held + 1 < 2 ^ 32) ⌝ }
+    ensures { λ r. ⌜ answers.device r (now (slots .exit)) ≡ rules.full-word v s (left o (now (slots .entry))) .device ⌝ }
+{
+    let s = apart(s);
+    let offered = offer(v, o, slots);
+    let output = offered.output;
+    let fate = offered.fate;
+    match fate {
+        Fate::Held => {
+            return Core { capture: s, output };
+        }
+        Fate::Lost => {
+            let capture = lose_frame(s);
+            let output = discard(1, output, slots);
+            return Core { capture, output };
+        }
+    }
+}
+
+// Rule 9, where there is a word.
+pub fn complete(c: Captured, o: Output, slots: &mut [u32; SLOTS]) -> Core
+    requires { ⌜ Laid (left o (now slots)) ⌝ }
+    requires { ⌜ (c .state .registers .ris ≤ 31) × (o .counts .completed + 1 < 2 ^ 32) × (o .counts .discarded + o .held + 1 < 2 ^ 32) ⌝ }
+    ensures { λ r. ⌜ answers.device r (now (slots .exit)) ≡ rules.complete (capture-answers.word (c .word)) (c .state) (left o (now (slots .entry))) .device ⌝ }
+{
+    let s = c.state;
+    let word = c.word;
+    match word {
+        Word::Nothing => {
+            return Core {
+                capture: s,
+                output: o,
+            };
+        }
+        Word::Full(v) => {
+            return full_word(v, s, o, slots);
+        }
+    }
+}
