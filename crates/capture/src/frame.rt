@@ -2,7 +2,7 @@
 ghost use mathlib.Core.Path.{_≡_};
 ghost use Prim.Native.Nat.{_+_, _<_, _≤_, _^_};
 ghost use Rattle.rules.specs.State as state;
-ghost use Rattle.rules.specs.Capture as rules;
+ghost use Rattle.rules.specs.Capture as capture-rules;
 use crate::apart;
 use crate::syncs::raise_frame;
 use registers::control;
@@ -53,7 +53,7 @@ pub fn close_frame(s: Capture) -> Capture
 // Rule 4: a taken frame that ends raises FRAME, and with CM 1 CAPTURE becomes 0.
 fn frame_captured(s: Capture) -> Capture
     requires { ⌜ s .registers .ris ≤ 31 ⌝ }
-    ensures { λ r. ⌜ r ≡ rules.frame-captured s ⌝ }
+    ensures { λ r. ⌜ r ≡ capture-rules.frame-captured s ⌝ }
 {
     let s = apart(s);
     if control::snapshot(s.registers.cr) {
@@ -64,7 +64,7 @@ fn frame_captured(s: Capture) -> Capture
 
 fn end_of(frame: Frame, s: Capture) -> Capture
     requires { ⌜ s .registers .ris ≤ 31 ⌝ }
-    ensures { λ r. ⌜ r ≡ rules.end-of frame s ⌝ }
+    ensures { λ r. ⌜ r ≡ capture-rules.end-of frame s ⌝ }
 {
     match frame {
         Frame::Closed => s,
@@ -80,7 +80,7 @@ fn end_of(frame: Frame, s: Capture) -> Capture
 // Rule 4: an open frame closes when VSYNC blanks.
 pub fn frame_end(s: Capture, now: Syncs) -> Capture
     requires { ⌜ s .registers .ris ≤ 31 ⌝ }
-    ensures { λ r. ⌜ r ≡ rules.frame-end s now ⌝ }
+    ensures { λ r. ⌜ r ≡ capture-rules.frame-end s now ⌝ }
 {
     let frame = s.frame;
     if now.vsync {
@@ -91,7 +91,7 @@ pub fn frame_end(s: Capture, now: Syncs) -> Capture
 
 // The period of the rate counter.
 pub fn rate_period(cr: u32) -> u32
-    ensures { λ r. ⌜ r ≡ rules.rate-period cr ⌝ }
+    ensures { λ r. ⌜ r ≡ capture-rules.rate-period cr ⌝ }
 {
     let fcrc = control::fcrc(cr);
     if fcrc == 0 {
@@ -106,7 +106,7 @@ pub fn rate_period(cr: u32) -> u32
 // Rule 5: the rate counter goes up modulo its period; with CM 1 it stays.
 fn next_rate(s: Capture) -> u32
     requires { ⌜ s .rate + 1 < 2 ^ 32 ⌝ }
-    ensures { λ r. ⌜ r ≡ rules.next-rate s ⌝ }
+    ensures { λ r. ⌜ r ≡ capture-rules.next-rate s ⌝ }
 {
     if control::snapshot(s.registers.cr) {
         return s.rate;
@@ -116,7 +116,7 @@ fn next_rate(s: Capture) -> u32
 
 fn open_frame(s: Capture) -> Capture
     requires { ⌜ s .rate + 1 < 2 ^ 32 ⌝ }
-    ensures { λ r. ⌜ r ≡ rules.open-frame s ⌝ }
+    ensures { λ r. ⌜ r ≡ capture-rules.open-frame s ⌝ }
 {
     let s = apart(s);
     let registers = s.registers;
@@ -146,7 +146,7 @@ fn open_frame(s: Capture) -> Capture
 
 // Rule 5: the frame is taken if CM is 1 or the rate counter is 0.
 fn takes(s: Capture) -> bool
-    ensures { λ r. ⌜ r ≡ rules.takes s ⌝ }
+    ensures { λ r. ⌜ r ≡ capture-rules.takes s ⌝ }
 {
     if control::snapshot(s.registers.cr) {
         return true;
@@ -156,7 +156,7 @@ fn takes(s: Capture) -> bool
 
 fn start_of(frame: Frame, now: Syncs, s: Capture) -> Capture
     requires { ⌜ s .rate + 1 < 2 ^ 32 ⌝ }
-    ensures { λ r. ⌜ r ≡ rules.start-of frame now s ⌝ }
+    ensures { λ r. ⌜ r ≡ capture-rules.start-of frame now s ⌝ }
 {
     match frame {
         Frame::Closed => {
@@ -171,7 +171,7 @@ fn start_of(frame: Frame, now: Syncs, s: Capture) -> Capture
 
 // Rule 5: CAPTURE is 1, and VSYNC blanked at the last working edge and does not now.
 fn starts(s: Capture, now: Syncs) -> bool
-    ensures { λ r. ⌜ r ≡ rules.starts s now ⌝ }
+    ensures { λ r. ⌜ r ≡ capture-rules.starts s now ⌝ }
 {
     if control::capture(s.registers.cr) {
         if s.syncs.vsync {
@@ -185,7 +185,7 @@ fn starts(s: Capture, now: Syncs) -> bool
 // Rule 5: a frame starts where none is open.
 pub fn frame_start(s: Capture, now: Syncs) -> Capture
     requires { ⌜ s .rate + 1 < 2 ^ 32 ⌝ }
-    ensures { λ r. ⌜ r ≡ rules.frame-start s now ⌝ }
+    ensures { λ r. ⌜ r ≡ capture-rules.frame-start s now ⌝ }
 {
     let frame = s.frame;
     start_of(frame, now, s)

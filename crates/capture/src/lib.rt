@@ -5,11 +5,11 @@ ghost use Prim.Native.Nat.{_+_, _<_, _^_};
 ghost use Rattle.registers.specs.Control.{edm};
 ghost use Rattle.packing.specs.Packing.{Joins};
 ghost use Rattle.rules.specs.State as state;
-ghost use Rattle.rules.specs.Capture as rules;
+ghost use Rattle.rules.specs.Capture as capture-rules;
 ghost use Rattle.rules.specs.WellFormed.{lines, pixels};
 ghost use Rattle.rules.specs.declared.Frame.the-variants.{Open};
 ghost use Rattle.rules.proofs.WellFormed.{CaptureOk};
-ghost use Rattle.capture.specs.Answers as answers;
+ghost use Rattle.capture.specs.Answers as capture-answers;
 
 pub mod frame;
 pub mod pixels;
@@ -99,7 +99,7 @@ fn with_scan(taken: bool, f: Scan, s: Capture) -> Capture
 // Rule 8: the datum joins the partial word, which is then partial still, or full.
 fn pack(mut s: Capture, datum: u32) -> Captured
     requires { ⌜ Joins (edm (s .registers .cr)) (s .partial .count) (s .partial .bits) datum ⌝ }
-    ensures { λ r. ⌜ answers.captured r ≡ rules.pack s datum ⌝ }
+    ensures { λ r. ⌜ capture-answers.captured r ≡ capture-rules.pack s datum ⌝ }
 {
     let edm = control::edm(s.registers.cr);
     let bits = joined(edm, s.partial.count, s.partial.bits, datum);
@@ -124,7 +124,7 @@ fn pack(mut s: Capture, datum: u32) -> Captured
 fn pixel(s: Capture, taken: bool, f: Scan, datum: u32) -> Captured
     requires { ⌜ (f .lines + 1 < 2 ^ 32) × (f .pixels + 1 < 2 ^ 32) ⌝ }
     requires { ⌜ Joins (edm (s .registers .cr)) (s .partial .count) (s .partial .bits) datum ⌝ }
-    ensures { λ r. ⌜ answers.captured r ≡ rules.pixel s taken f datum ⌝ }
+    ensures { λ r. ⌜ capture-answers.captured r ≡ capture-rules.pixel s taken f datum ⌝ }
 {
     let s = apart(s);
     let next = pixels::next_pixel(s, f);
@@ -142,7 +142,7 @@ fn pixel(s: Capture, taken: bool, f: Scan, datum: u32) -> Captured
 fn pixel_in(frame: Frame, s: Capture, datum: u32) -> Captured
     requires { ⌜ (lines frame + 1 < 2 ^ 32) × (pixels frame + 1 < 2 ^ 32) ⌝ }
     requires { ⌜ Joins (edm (s .registers .cr)) (s .partial .count) (s .partial .bits) datum ⌝ }
-    ensures { λ r. ⌜ answers.captured r ≡ rules.pixel-in frame s state.not-blanking datum ⌝ }
+    ensures { λ r. ⌜ capture-answers.captured r ≡ capture-rules.pixel-in frame s state.not-blanking datum ⌝ }
 {
     match frame {
         Frame::Closed => Captured {
@@ -155,8 +155,8 @@ fn pixel_in(frame: Frame, s: Capture, datum: u32) -> Captured
 
 // Rules 3 to 8 at a working edge at which neither sync blanks: no flag rises and no frame ends.
 fn plain_edge(s: Capture, datum: u32) -> Captured
-    requires { ⌜ CaptureOk answers.most-lines s ⌝ }
-    ensures { λ r. ⌜ answers.captured r ≡ rules.at-edge s state.not-blanking datum ⌝ }
+    requires { ⌜ CaptureOk capture-answers.most-lines s ⌝ }
+    ensures { λ r. ⌜ capture-answers.captured r ≡ capture-rules.at-edge s state.not-blanking datum ⌝ }
 {
     let now = Syncs {
         hsync: false,
@@ -174,8 +174,8 @@ fn plain_edge(s: Capture, datum: u32) -> Captured
 
 // Rules 3 to 5 at a working edge at which a sync blanks: it carries no pixel.
 fn blanked_edge(s: Capture, now: Syncs) -> Captured
-    requires { ⌜ CaptureOk answers.most-lines s ⌝ }
-    ensures { λ r. ⌜ answers.captured r ≡ rules.remember-syncs now (rules.no-word (rules.frame-start (rules.frame-end (rules.sync-flags s now) now) now)) ⌝ }
+    requires { ⌜ CaptureOk capture-answers.most-lines s ⌝ }
+    ensures { λ r. ⌜ capture-answers.captured r ≡ capture-rules.remember-syncs now (capture-rules.no-word (capture-rules.frame-start (capture-rules.frame-end (capture-rules.sync-flags s now) now) now)) ⌝ }
 {
     let flagged = syncs::sync_flags(s, now);
     let ended = frame::frame_end(flagged, now);
@@ -190,7 +190,7 @@ fn blanked_edge(s: Capture, now: Syncs) -> Captured
 
 // Rule 2: the sample's levels are remembered.
 fn remember_pins(mut s: Capture, w: u32) -> Capture
-    ensures { λ r. ⌜ r ≡ rules.remember-pins w s ⌝ }
+    ensures { λ r. ⌜ r ≡ capture-rules.remember-pins w s ⌝ }
 {
     let hsync = hsync_pin(w);
     let vsync = vsync_pin(w);
@@ -203,8 +203,8 @@ fn remember_pins(mut s: Capture, w: u32) -> Capture
 
 // Rules 2 to 8. Lines and pixels can be counted further by one.
 pub fn sample(s: Capture, w: u32) -> Captured
-    requires { ⌜ CaptureOk answers.most-lines s ⌝ }
-    ensures { λ r. ⌜ answers.captured r ≡ rules.capture-sample s w ⌝ }
+    requires { ⌜ CaptureOk capture-answers.most-lines s ⌝ }
+    ensures { λ r. ⌜ capture-answers.captured r ≡ capture-rules.capture-sample s w ⌝ }
 {
     let s = apart(s);
     let seen = remember_pins(s, w);

@@ -1,7 +1,7 @@
 // Rules 6 and 7: the place of a pixel, and whether it is captured.
 ghost use mathlib.Core.Path.{_≡_};
 ghost use Prim.Native.Nat.{_+_, _-_, _<_, _^_};
-ghost use Rattle.rules.specs.Capture as rules;
+ghost use Rattle.rules.specs.Capture as capture-rules;
 use registers::control;
 use registers::window;
 use rules::Capture;
@@ -9,7 +9,7 @@ use rules::Scan;
 
 // Rule 6: a line begins if HSYNC blanked at the last working edge or no line has begun in this frame.
 fn line_begins(s: Capture, f: Scan) -> bool
-    ensures { λ r. ⌜ r ≡ rules.line-begins s f ⌝ }
+    ensures { λ r. ⌜ r ≡ capture-rules.line-begins s f ⌝ }
 {
     if s.syncs.hsync {
         return true;
@@ -20,7 +20,7 @@ fn line_begins(s: Capture, f: Scan) -> bool
 // Rule 6: the lines begun and the pixels of the last with one pixel more.
 pub fn next_pixel(s: Capture, f: Scan) -> Scan
     requires { ⌜ (f .lines + 1 < 2 ^ 32) × (f .pixels + 1 < 2 ^ 32) ⌝ }
-    ensures { λ r. ⌜ r ≡ rules.next-pixel s f ⌝ }
+    ensures { λ r. ⌜ r ≡ capture-rules.next-pixel s f ⌝ }
 {
     if line_begins(s, f) {
         return Scan {
@@ -37,7 +37,7 @@ pub fn next_pixel(s: Capture, f: Scan) -> Scan
 // Rule 7: from a first one, that one and as many more as the register says, ends included.
 fn within(start: u32, more: u32, x: u32) -> bool
     requires { ⌜ start + more < 2 ^ 32 ⌝ }
-    ensures { λ r. ⌜ r ≡ rules.within start more x ⌝ }
+    ensures { λ r. ⌜ r ≡ capture-rules.within start more x ⌝ }
 {
     if start <= x {
         return x <= start + more;
@@ -57,7 +57,7 @@ fn less_one(n: u32) -> u32
 
 // Rule 7: the last pixel's line and column are in the window.
 fn in_window(s: Capture, f: Scan) -> bool
-    ensures { λ r. ⌜ r ≡ rules.in-window s f ⌝ }
+    ensures { λ r. ⌜ r ≡ capture-rules.in-window s f ⌝ }
 {
     let line = less_one(f.lines);
     let column = less_one(f.pixels);
@@ -77,7 +77,7 @@ fn in_window(s: Capture, f: Scan) -> bool
 
 // Rule 7: a pixel of a taken frame is captured if CROP is 0 or it is in the window.
 pub fn captured(s: Capture, taken: bool, f: Scan) -> bool
-    ensures { λ r. ⌜ r ≡ rules.captured s taken f ⌝ }
+    ensures { λ r. ⌜ r ≡ capture-rules.captured s taken f ⌝ }
 {
     if taken {
         if control::crop(s.registers.cr) {

@@ -4,7 +4,7 @@ ghost use mathlib.Core.Path.{_≡_};
 ghost use Prim.Native.Nat.{_+_, _/_, _%_, _<_, _≤_, _^_};
 ghost use lib.Dec.{eqb};
 ghost use Rattle.rules.specs.State as state;
-ghost use Rattle.rules.specs.Capture as rules;
+ghost use Rattle.rules.specs.Capture as capture-rules;
 use registers::control;
 use rules::Capture;
 use rules::Syncs;
@@ -14,7 +14,7 @@ use samples::vsync_pin;
 
 // Rule 2: the sample goes on. ENABLE is 1, and the clock fell (PCKPOL 0) or rose (PCKPOL 1) since the last sample.
 pub fn goes_on(s: Capture, w: u32) -> bool
-    ensures { λ r. ⌜ r ≡ (rules.working-edge s w && rules.enabled s) ⌝ }
+    ensures { λ r. ⌜ r ≡ (capture-rules.working-edge s w && capture-rules.enabled s) ⌝ }
 {
     let cr = s.registers.cr;
     let before = s.pins.clock;
@@ -43,7 +43,7 @@ pub fn blanks(pin: bool, polarity: bool) -> bool
 
 // Rule 3: whether each sync blanks now.
 pub fn blanking(s: Capture, w: u32) -> Syncs
-    ensures { λ r. ⌜ r ≡ rules.blanking s w ⌝ }
+    ensures { λ r. ⌜ r ≡ capture-rules.blanking s w ⌝ }
 {
     let cr = s.registers.cr;
     let hsync = blanks(hsync_pin(w), control::hspol(cr));
@@ -53,7 +53,7 @@ pub fn blanking(s: Capture, w: u32) -> Syncs
 
 // Whether a sync blanks.
 pub fn any_blanks(now: Syncs) -> bool
-    ensures { λ r. ⌜ r ≡ rules.any-blanks now ⌝ }
+    ensures { λ r. ⌜ r ≡ capture-rules.any-blanks now ⌝ }
 {
     if now.hsync {
         return true;
@@ -111,7 +111,7 @@ fn raise_line(mut s: Capture) -> Capture
 
 fn vsync_flag(s: Capture, now: Syncs) -> Capture
     requires { ⌜ s .registers .ris ≤ 31 ⌝ }
-    ensures { λ r. ⌜ r ≡ rules.vsync-flag s now ⌝ }
+    ensures { λ r. ⌜ r ≡ capture-rules.vsync-flag s now ⌝ }
 {
     if s.syncs.vsync {
         return s;
@@ -124,7 +124,7 @@ fn vsync_flag(s: Capture, now: Syncs) -> Capture
 
 fn line_flag(s: Capture, now: Syncs) -> Capture
     requires { ⌜ s .registers .ris ≤ 31 ⌝ }
-    ensures { λ r. ⌜ r ≡ rules.line-flag s now ⌝ }
+    ensures { λ r. ⌜ r ≡ capture-rules.line-flag s now ⌝ }
 {
     if s.syncs.hsync {
         return s;
@@ -138,7 +138,7 @@ fn line_flag(s: Capture, now: Syncs) -> Capture
 // Rule 3: a sync that did not blank at the last working edge and blanks now raises its flag.
 pub fn sync_flags(s: Capture, now: Syncs) -> Capture
     requires { ⌜ s .registers .ris ≤ 31 ⌝ }
-    ensures { λ r. ⌜ r ≡ rules.sync-flags s now ⌝ }
+    ensures { λ r. ⌜ r ≡ capture-rules.sync-flags s now ⌝ }
 {
     let t = vsync_flag(s, now);
     line_flag(t, now)

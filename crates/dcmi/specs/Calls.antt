@@ -9,12 +9,12 @@ use Rattle.refusals.specs.Refusals.{Answer, refused, answered}
 use Rattle.rules.specs.declared.Device.{Device}
 use Rattle.rules.specs.State.{fresh}
 use Rattle.rules.specs.Answers.{Changed}
-use Rattle.rules.specs.RegisterCalls as registers
-use Rattle.rules.specs.Run as runs
+use Rattle.rules.specs.RegisterCalls as register-rules
+use Rattle.rules.specs.Run as run-rules
 use Rattle.trace.specs.declared.Write.{Write}
 use Rattle.trace.specs.Reading as reading
 use Rattle.trace.specs.Writing as writing
-use Rattle.files.specs.File as files
+use Rattle.files.specs.File as file-rules
 use Rattle.device_words.specs.Image.{flag, image-of, encodes, device-of}
 
 -- The number, and the image that is left.
@@ -35,10 +35,10 @@ unfoldable pub reset : Called
 reset = record { number = 0; image = image-of fresh }
 
 unfoldable pub write : List ℕ → ℕ → ℕ → Called
-write image offset value = cond (encodes image) (changed image (registers.write (device-of image) offset value)) (no-device image)
+write image offset value = cond (encodes image) (changed image (register-rules.write (device-of image) offset value)) (no-device image)
 
 unfoldable pub rearm : List ℕ → Called
-rearm image = cond (encodes image) (changed image (registers.rearm (device-of image))) (no-device image)
+rearm image = cond (encodes image) (changed image (register-rules.rearm (device-of image))) (no-device image)
 
 -- The number, and the output that is left: the old one where the call is refused.
 pub record Got : Type 0 where
@@ -57,10 +57,10 @@ got-line old (refused n) = record { number = n; value = old }
 got-line old (answered b) = record { number = 0; value = flag b }
 
 unfoldable pub read : List ℕ → ℕ → ℕ → Got
-read image offset old = cond (encodes image) (got old (registers.read (device-of image) offset)) (record { number = 1; value = old })
+read image offset old = cond (encodes image) (got old (register-rules.read (device-of image) offset)) (record { number = 1; value = old })
 
 unfoldable pub interrupt : List ℕ → ℕ → Got
-interrupt image old = cond (encodes image) (got-line old (registers.interrupt (device-of image))) (record { number = 1; value = old })
+interrupt image old = cond (encodes image) (got-line old (register-rules.interrupt (device-of image))) (record { number = 1; value = old })
 
 -- With the memory that is left.
 pub record RunCalled : Type 0 where
@@ -71,12 +71,12 @@ pub record RunCalled : Type 0 where
 abbrev pub run-called : ℕ → List ℕ → List ℕ → RunCalled
 run-called number image memory = record { number = number; image = image; memory = memory }
 
-abbrev pub ran : List ℕ → runs.RunResult → RunCalled
+abbrev pub ran : List ℕ → run-rules.RunResult → RunCalled
 ran image r = record { number = r .number; image = cond (eqb (r .number) 0) (image-of (r .device)) image; memory = r .memory }
 
 unfoldable pub run : List ℕ → List ℕ → ℕ → List ℕ → RunCalled
 run image memory start samples =
-    cond (encodes image) (ran image (runs.run (device-of image) memory start samples)) (record { number = 1; image = image; memory = memory })
+    cond (encodes image) (ran image (run-rules.run (device-of image) memory start samples)) (record { number = 1; image = image; memory = memory })
 
 -- A file needs no device: its image is the one that the file leaves.
 abbrev pub file-stored : List ℕ → Answer Device → Called
@@ -88,7 +88,7 @@ file-left c memory = record { number = c .number; image = c .image; memory = mem
 
 unfoldable pub run-file : List ℕ → List ℕ → List ℕ → ℕ → RunCalled
 run-file image file memory start =
-    let r = files.run-file file memory start in
+    let r = file-rules.run-file file memory start in
     file-left (file-stored image (r .answer)) (r .memory)
 
 -- A sample's two answers as four words: landed, byte, packed, value.
@@ -100,17 +100,17 @@ abbrev pub byte-word : Option ℕ → ℕ
 byte-word none = 0
 byte-word (some byte) = byte
 
-abbrev pub packed-word : runs.Packed → ℕ
-packed-word runs.nothing = 0
-packed-word (runs.completed v) = 1
-packed-word runs.lost = 2
+abbrev pub packed-word : run-rules.Packed → ℕ
+packed-word run-rules.nothing = 0
+packed-word (run-rules.completed v) = 1
+packed-word run-rules.lost = 2
 
-abbrev pub value-word : runs.Packed → ℕ
-value-word runs.nothing = 0
-value-word (runs.completed v) = v
-value-word runs.lost = 0
+abbrev pub value-word : run-rules.Packed → ℕ
+value-word run-rules.nothing = 0
+value-word (run-rules.completed v) = v
+value-word run-rules.lost = 0
 
-abbrev pub answer-words : runs.SampleAnswer → List ℕ
+abbrev pub answer-words : run-rules.SampleAnswer → List ℕ
 answer-words a = landed-word (a .landing) ∷ byte-word (a .landing) ∷ packed-word (a .packed) ∷ value-word (a .packed) ∷ []
 
 -- The number, the image and the answer that are left; and the memory.
@@ -122,7 +122,7 @@ pub record SampleStored : Type 0 where
 abbrev pub sample-called : ℕ → List ℕ → List ℕ → SampleStored
 sample-called number image answer = record { number = number; image = image; answer = answer }
 
-abbrev pub sample-stored : List ℕ → List ℕ → Answer runs.SampleAnswer → Device → SampleStored
+abbrev pub sample-stored : List ℕ → List ℕ → Answer run-rules.SampleAnswer → Device → SampleStored
 sample-stored image old (refused n) d = sample-called n image old
 sample-stored image old (answered a) d = sample-called 0 (image-of d) (answer-words a)
 
@@ -135,16 +135,16 @@ sample-left stored memory = record { stored = stored; memory = memory }
 
 unfoldable pub sample : List ℕ → List ℕ → ℕ → ℕ → List ℕ → SampleCalled
 sample image memory start w old =
-    let r = runs.sample (device-of image) memory start w in
+    let r = run-rules.sample (device-of image) memory start w in
     cond (encodes image) (sample-left (sample-stored image old (r .answer) (r .device)) (r .memory)) (sample-left (sample-called 1 image old) memory)
 
 -- The trace file's writer: the number, the length, and the buffer that is left.
 pub record Encoded : Type 0 where
-  pub length : Got
+  pub got : Got
   pub buffer : List ℕ
 
 abbrev pub encoded : Got → List ℕ → Encoded
-encoded length buffer = record { length = length; buffer = buffer }
+encoded got buffer = record { got = got; buffer = buffer }
 
 unfoldable pub trace-write : List Write → List ℕ → List ℕ → ℕ → Encoded
 trace-write writes samples out old =

@@ -2,12 +2,12 @@
 // or a refusal number for every input, has no `requires`, and states its whole result, the image, the memory and the outputs that it leaves, as one
 // equation with a definition of specs/; refused, all of them are as they were.
 ghost use mathlib.Core.Path.{_≡_};
-ghost use Rattle.device.specs.Answers as answers;
+ghost use Rattle.device.specs.Answers as device-answers;
 ghost use Rattle.files.specs.Answers as file-answers;
 ghost use Rattle.sampling.specs.Answers as sample-answers;
 ghost use Rattle.trace.specs.Answers as trace-answers;
 ghost use Rattle.trace.specs.Writing as writing;
-ghost use Rattle.dcmi.specs.Calls as calls;
+ghost use Rattle.dcmi.specs.Calls as call-rules;
 use device::Changed;
 use device::InterruptLine;
 use device::Reading;
@@ -25,7 +25,7 @@ use trace::Read;
 
 // The image after a call that changes the device.
 fn store(image: &mut [u32; 26], after: Changed) -> u32
-    ensures { λ r. ⌜ calls.called r (now (image .exit)) ≡ calls.changed (now (image .entry)) (answers.changed after) ⌝ }
+    ensures { λ r. ⌜ call-rules.called r (now (image .exit)) ≡ call-rules.changed (now (image .entry)) (device-answers.changed after) ⌝ }
 {
     let outcome = after.outcome;
     match outcome {
@@ -43,7 +43,7 @@ fn store(image: &mut [u32; 26], after: Changed) -> u32
 // A fresh device.
 #[no_mangle]
 pub extern "C" fn dcmi_reset(image: &mut [u32; 26]) -> u32
-    ensures { λ r. ⌜ calls.called r (now (image .exit)) ≡ calls.reset ⌝ }
+    ensures { λ r. ⌜ call-rules.called r (now (image .exit)) ≡ call-rules.reset ⌝ }
 {
     let d = device::fresh();
     *image = image_of(d);
@@ -53,7 +53,7 @@ pub extern "C" fn dcmi_reset(image: &mut [u32; 26]) -> u32
 // A register write.
 #[no_mangle]
 pub extern "C" fn dcmi_write(image: &mut [u32; 26], offset: u32, value: u32) -> u32
-    ensures { λ r. ⌜ calls.called r (now (image .exit)) ≡ calls.write (now (image .entry)) offset value ⌝ }
+    ensures { λ r. ⌜ call-rules.called r (now (image .exit)) ≡ call-rules.write (now (image .entry)) offset value ⌝ }
 {
     let words = *image;
     if encodes(words) {
@@ -66,7 +66,7 @@ pub extern "C" fn dcmi_write(image: &mut [u32; 26], offset: u32, value: u32) -> 
 // The next word goes to place 0.
 #[no_mangle]
 pub extern "C" fn dcmi_rearm(image: &mut [u32; 26]) -> u32
-    ensures { λ r. ⌜ calls.called r (now (image .exit)) ≡ calls.rearm (now (image .entry)) ⌝ }
+    ensures { λ r. ⌜ call-rules.called r (now (image .exit)) ≡ call-rules.rearm (now (image .entry)) ⌝ }
 {
     let words = *image;
     if encodes(words) {
@@ -77,7 +77,7 @@ pub extern "C" fn dcmi_rearm(image: &mut [u32; 26]) -> u32
 }
 
 fn put_reading(reading: Reading, value: &mut u32) -> u32
-    ensures { λ r. ⌜ calls.gave r (now (value .exit)) ≡ calls.got (now (value .entry)) (answers.reading reading) ⌝ }
+    ensures { λ r. ⌜ call-rules.gave r (now (value .exit)) ≡ call-rules.got (now (value .entry)) (device-answers.reading reading) ⌝ }
 {
     match reading {
         Reading::Value(v) => {
@@ -93,7 +93,7 @@ fn put_reading(reading: Reading, value: &mut u32) -> u32
 // A register read.
 #[no_mangle]
 pub extern "C" fn dcmi_read(image: &[u32; 26], offset: u32, value: &mut u32) -> u32
-    ensures { λ r. ⌜ calls.gave r (now (value .exit)) ≡ calls.read (now (image .entry)) offset (now (value .entry)) ⌝ }
+    ensures { λ r. ⌜ call-rules.gave r (now (value .exit)) ≡ call-rules.read (now (image .entry)) offset (now (value .entry)) ⌝ }
 {
     let words = *image;
     if encodes(words) {
@@ -104,7 +104,7 @@ pub extern "C" fn dcmi_read(image: &[u32; 26], offset: u32, value: &mut u32) -> 
 }
 
 fn put_line(line: InterruptLine, level: &mut u32) -> u32
-    ensures { λ r. ⌜ calls.gave r (now (level .exit)) ≡ calls.got-line (now (level .entry)) (answers.line line) ⌝ }
+    ensures { λ r. ⌜ call-rules.gave r (now (level .exit)) ≡ call-rules.got-line (now (level .entry)) (device-answers.line line) ⌝ }
 {
     match line {
         InterruptLine::Up => {
@@ -124,7 +124,7 @@ fn put_line(line: InterruptLine, level: &mut u32) -> u32
 // The interrupt line: 1 up, 0 down.
 #[no_mangle]
 pub extern "C" fn dcmi_interrupt(image: &[u32; 26], level: &mut u32) -> u32
-    ensures { λ r. ⌜ calls.gave r (now (level .exit)) ≡ calls.interrupt (now (image .entry)) (now (level .entry)) ⌝ }
+    ensures { λ r. ⌜ call-rules.gave r (now (level .exit)) ≡ call-rules.interrupt (now (image .entry)) (now (level .entry)) ⌝ }
 {
     let words = *image;
     if encodes(words) {
@@ -142,7 +142,7 @@ pub extern "C" fn dcmi_run_slices(
     start: usize,
     samples: &[u32],
 ) -> u32
-    ensures { λ r. ⌜ calls.run-called r (now (image .exit)) (now (memory .exit)) ≡ calls.run (now (image .entry)) (now (memory .entry)) start (now (samples .entry)) ⌝ }
+    ensures { λ r. ⌜ call-rules.run-called r (now (image .exit)) (now (memory .exit)) ≡ call-rules.run (now (image .entry)) (now (memory .entry)) start (now (samples .entry)) ⌝ }
 {
     let words = *image;
     if encodes(words) {
@@ -153,7 +153,7 @@ pub extern "C" fn dcmi_run_slices(
 }
 
 fn store_ran(image: &mut [u32; 26], after: Ran) -> u32
-    ensures { λ r. ⌜ calls.called r (now (image .exit)) ≡ calls.file-stored (now (image .entry)) (file-answers.answer (after .outcome) (after .device)) ⌝ }
+    ensures { λ r. ⌜ call-rules.called r (now (image .exit)) ≡ call-rules.file-stored (now (image .entry)) (file-answers.answer (after .outcome) (after .device)) ⌝ }
 {
     let outcome = after.outcome;
     match outcome {
@@ -176,14 +176,14 @@ pub extern "C" fn dcmi_run_file_slices(
     memory: &mut [u8],
     start: usize,
 ) -> u32
-    ensures { λ r. ⌜ calls.run-called r (now (image .exit)) (now (memory .exit)) ≡ calls.run-file (now (image .entry)) (now (file .entry)) (now (memory .entry)) start ⌝ }
+    ensures { λ r. ⌜ call-rules.run-called r (now (image .exit)) (now (memory .exit)) ≡ call-rules.run-file (now (image .entry)) (now (file .entry)) (now (memory .entry)) start ⌝ }
 {
     let after = files::run_file(file, memory, start);
     store_ran(image, after)
 }
 
 fn landed_word(landing: Landing) -> u64
-    ensures { λ r. ⌜ r ≡ calls.landed-word (sample-answers.landing landing) ⌝ }
+    ensures { λ r. ⌜ r ≡ call-rules.landed-word (sample-answers.landing landing) ⌝ }
 {
     match landing {
         Landing::Nowhere => 0,
@@ -192,7 +192,7 @@ fn landed_word(landing: Landing) -> u64
 }
 
 fn byte_word(landing: Landing) -> u64
-    ensures { λ r. ⌜ r ≡ calls.byte-word (sample-answers.landing landing) ⌝ }
+    ensures { λ r. ⌜ r ≡ call-rules.byte-word (sample-answers.landing landing) ⌝ }
 {
     match landing {
         Landing::Nowhere => 0,
@@ -201,7 +201,7 @@ fn byte_word(landing: Landing) -> u64
 }
 
 fn packed_word(packing: Packing) -> u64
-    ensures { λ r. ⌜ r ≡ calls.packed-word (sample-answers.packing packing) ⌝ }
+    ensures { λ r. ⌜ r ≡ call-rules.packed-word (sample-answers.packing packing) ⌝ }
 {
     match packing {
         Packing::Nothing => 0,
@@ -211,7 +211,7 @@ fn packed_word(packing: Packing) -> u64
 }
 
 fn value_word(packing: Packing) -> u64
-    ensures { λ r. ⌜ r ≡ calls.value-word (sample-answers.packing packing) ⌝ }
+    ensures { λ r. ⌜ r ≡ call-rules.value-word (sample-answers.packing packing) ⌝ }
 {
     match packing {
         Packing::Nothing => 0,
@@ -221,7 +221,7 @@ fn value_word(packing: Packing) -> u64
 }
 
 fn put_sampled(image: &mut [u32; 26], answer: &mut [u64; 4], after: Sampled) -> u32
-    ensures { λ r. ⌜ calls.sample-called r (now (image .exit)) (now (answer .exit)) ≡ calls.sample-stored (now (image .entry)) (now (answer .entry)) (answers.reply (after .reply)) (after .device) ⌝ }
+    ensures { λ r. ⌜ call-rules.sample-called r (now (image .exit)) (now (answer .exit)) ≡ call-rules.sample-stored (now (image .entry)) (now (answer .entry)) (device-answers.reply (after .reply)) (after .device) ⌝ }
 {
     let reply = after.reply;
     match reply {
@@ -250,7 +250,7 @@ pub extern "C" fn dcmi_sample_slices(
     sample: u32,
     answer: &mut [u64; 4],
 ) -> u32
-    ensures { λ r. ⌜ calls.sample-left (calls.sample-called r (now (image .exit)) (now (answer .exit))) (now (memory .exit)) ≡ calls.sample (now (image .entry)) (now (memory .entry)) start sample (now (answer .entry)) ⌝ }
+    ensures { λ r. ⌜ call-rules.sample-left (call-rules.sample-called r (now (image .exit)) (now (answer .exit))) (now (memory .exit)) ≡ call-rules.sample (now (image .entry)) (now (memory .entry)) start sample (now (answer .entry)) ⌝ }
 {
     let words = *image;
     if encodes(words) {
@@ -261,7 +261,7 @@ pub extern "C" fn dcmi_sample_slices(
 }
 
 fn put_written(outcome: trace::Written, length: &mut usize) -> u32
-    ensures { λ r. ⌜ calls.gave r (now (length .exit)) ≡ calls.got (now (length .entry)) (trace-answers.length outcome) ⌝ }
+    ensures { λ r. ⌜ call-rules.gave r (now (length .exit)) ≡ call-rules.got (now (length .entry)) (trace-answers.written-length outcome) ⌝ }
 {
     match outcome {
         trace::Written::Length(n) => {
@@ -284,14 +284,14 @@ pub extern "C" fn dcmi_trace_write_slices(
     out: &mut [u8],
     length: &mut usize,
 ) -> u32
-    ensures { λ r. ⌜ calls.encoded (calls.gave r (now (length .exit))) (now (out .exit)) ≡ calls.trace-write (writing.given count (now (offsets .entry)) (now (values .entry))) (now (samples .entry)) (now (out .entry)) (now (length .entry)) ⌝ }
+    ensures { λ r. ⌜ call-rules.encoded (call-rules.gave r (now (length .exit))) (now (out .exit)) ≡ call-rules.trace-write (writing.given count (now (offsets .entry)) (now (values .entry))) (now (samples .entry)) (now (out .entry)) (now (length .entry)) ⌝ }
 {
     let outcome = trace::encode(count, offsets, values, samples, out);
     put_written(outcome, length)
 }
 
 fn put_read(read: Read, item: &mut [u64; 4]) -> u32
-    ensures { λ r. ⌜ calls.item-called r (now (item .exit)) ≡ calls.item-words (now (item .entry)) (trace-answers.item (read .item)) (read .place) ⌝ }
+    ensures { λ r. ⌜ call-rules.item-called r (now (item .exit)) ≡ call-rules.item-words (now (item .entry)) (trace-answers.item (read .item)) (read .place) ⌝ }
 {
     let next = read.place as u64;
     let found = read.item;
@@ -320,7 +320,7 @@ fn put_read(read: Read, item: &mut [u64; 4]) -> u32
 // The item at a place of a trace file.
 #[no_mangle]
 pub extern "C" fn dcmi_trace_item_slices(file: &[u8], place: usize, item: &mut [u64; 4]) -> u32
-    ensures { λ r. ⌜ calls.item-called r (now (item .exit)) ≡ calls.trace-item (now (file .entry)) place (now (item .entry)) ⌝ }
+    ensures { λ r. ⌜ call-rules.item-called r (now (item .exit)) ≡ call-rules.trace-item (now (file .entry)) place (now (item .entry)) ⌝ }
 {
     let read = trace::read_once(file, place);
     put_read(read, item)

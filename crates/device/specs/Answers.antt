@@ -4,31 +4,31 @@ use mathlib.Core.List.{List}
 use Prim.Native.Nat.{ℕ}
 use Rattle.refusals.specs.Refusals.{Answer, refused, answered}
 use Rattle.refusals.specs.Table.{number, outcome}
-use Rattle.rules.specs.Answers as rules
+use Rattle.rules.specs.Answers as rule-answers
 use Rattle.rules.specs.Run.{RunResult, SampleAnswer, SampleResult}
 use Rattle.sampling.specs.Answers.{landing, packing}
 use Rattle.device.specs.declared.Reading.{Reading}
-use Rattle.device.specs.declared.Reading.the-variants as readings
+use Rattle.device.specs.declared.Reading.the-variants as reading-cases
 use Rattle.device.specs.declared.InterruptLine.{InterruptLine}
-use Rattle.device.specs.declared.InterruptLine.the-variants as levels
+use Rattle.device.specs.declared.InterruptLine.the-variants as line-cases
 use Rattle.device.specs.declared.Reply.{Reply}
-use Rattle.device.specs.declared.Reply.the-variants as replies
+use Rattle.device.specs.declared.Reply.the-variants as reply-cases
 use Rattle.device.specs.declared.Changed.{Changed}
 use Rattle.device.specs.declared.Sampled.{Sampled}
 
 -- A register's value, or a refusal with its number and no value.
 abbrev pub reading : Reading → Answer ℕ
-reading (readings.Value v) = answered v
-reading (readings.Refused e) = refused (number e)
+reading (reading-cases.Value v) = answered v
+reading (reading-cases.Refused e) = refused (number e)
 
 -- Whether the interrupt line is up, or a refusal.
 abbrev pub line : InterruptLine → Answer Bool
-line levels.Up = answered true
-line levels.Down = answered false
-line (levels.Refused e) = refused (number e)
+line line-cases.Up = answered true
+line line-cases.Down = answered false
+line (line-cases.Refused e) = refused (number e)
 
 -- The number and the device that a call leaves.
-abbrev pub changed : Changed → rules.Changed
+abbrev pub changed : Changed → rule-answers.Changed
 changed c = record { number = outcome (c .outcome); device = c .device }
 
 -- With the memory that some samples leave.
@@ -37,8 +37,8 @@ ran c memory = record { number = outcome (c .outcome); device = c .device; memor
 
 -- A sample's two answers, or a refusal.
 abbrev pub reply : Reply → Answer SampleAnswer
-reply (replies.Answered l p) = answered (record { landing = landing l; packed = packing p })
-reply (replies.Refused e) = refused (number e)
+reply (reply-cases.Answered l p) = answered (record { landing = landing l; packed = packing p })
+reply (reply-cases.Refused e) = refused (number e)
 
 abbrev pub sampled : Sampled → List ℕ → SampleResult
 sampled s memory = record { answer = reply (s .reply); device = s .device; memory = memory }

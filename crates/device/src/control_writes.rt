@@ -2,7 +2,7 @@
 ghost use mathlib.Core.Path.{_≡_};
 ghost use Prim.Native.Nat.{_+_, _<_, _^_};
 ghost use Rattle.registers.specs.declared.Found.the-variants.{At};
-ghost use Rattle.rules.specs.RegisterCalls as calls;
+ghost use Rattle.rules.specs.RegisterCalls as register-rules;
 use crate::well_formed::is_open;
 use output::discard;
 use registers::Register;
@@ -17,7 +17,7 @@ use rules::Syncs;
 
 // ENABLE 0 to 1.
 fn enabling(s: Capture) -> Capture
-    ensures { λ r. ⌜ r ≡ calls.enabling s ⌝ }
+    ensures { λ r. ⌜ r ≡ register-rules.enabling s ⌝ }
 {
     let registers = s.registers;
     let pins = s.pins;
@@ -37,7 +37,7 @@ fn enabling(s: Capture) -> Capture
 
 // ENABLE 1 to 0.
 fn disabling(s: Capture) -> Capture
-    ensures { λ r. ⌜ r ≡ calls.disabling s ⌝ }
+    ensures { λ r. ⌜ r ≡ register-rules.disabling s ⌝ }
 {
     let registers = s.registers;
     let pins = s.pins;
@@ -53,7 +53,7 @@ fn disabling(s: Capture) -> Capture
 }
 
 fn switch_enable(v: u32, s: Capture) -> Capture
-    ensures { λ r. ⌜ r ≡ calls.switch-enable v s ⌝ }
+    ensures { λ r. ⌜ r ≡ register-rules.switch-enable v s ⌝ }
 {
     if control::enable(s.registers.cr) {
         if control::enable(v) {
@@ -68,7 +68,7 @@ fn switch_enable(v: u32, s: Capture) -> Capture
 }
 
 fn capture_rises(v: u32, s: Capture) -> bool
-    ensures { λ r. ⌜ r ≡ calls.capture-rises v s ⌝ }
+    ensures { λ r. ⌜ r ≡ register-rules.capture-rises v s ⌝ }
 {
     let frame = s.frame;
     if control::capture(s.registers.cr) {
@@ -81,7 +81,7 @@ fn capture_rises(v: u32, s: Capture) -> bool
 }
 
 fn switch_capture(rises: bool, mut s: Capture) -> Capture
-    ensures { λ r. ⌜ r ≡ calls.switch-capture rises s ⌝ }
+    ensures { λ r. ⌜ r ≡ register-rules.switch-capture rises s ⌝ }
 {
     if rises {
         s.rate = 0;
@@ -91,7 +91,7 @@ fn switch_capture(rises: bool, mut s: Capture) -> Capture
 }
 
 fn write_control(v: u32, s: Capture) -> Capture
-    ensures { λ r. ⌜ r ≡ calls.write-control v s ⌝ }
+    ensures { λ r. ⌜ r ≡ register-rules.write-control v s ⌝ }
 {
     let mut t = switch_capture(capture_rises(v, s), switch_enable(v, s));
     t.registers.cr = v;
@@ -100,7 +100,7 @@ fn write_control(v: u32, s: Capture) -> Capture
 
 // ICR: a 1 clears that bit of RIS.
 fn clear_flags(v: u32, mut r: Registers) -> Registers
-    ensures { λ a. ⌜ a ≡ calls.clear-flags v r ⌝ }
+    ensures { λ a. ⌜ a ≡ register-rules.clear-flags v r ⌝ }
 {
     let ris = r.ris - (r.ris & v);
     r.ris = ris;
@@ -108,7 +108,7 @@ fn clear_flags(v: u32, mut r: Registers) -> Registers
 }
 
 fn write_register(register: Register, v: u32, mut s: Capture) -> Capture
-    ensures { λ r. ⌜ r ≡ calls.write-register register v s ⌝ }
+    ensures { λ r. ⌜ r ≡ register-rules.write-register register v s ⌝ }
 {
     match register {
         Register::Control => write_control(v, s),
@@ -137,7 +137,7 @@ fn write_register(register: Register, v: u32, mut s: Capture) -> Capture
 
 // Whether a write is one of CR that takes ENABLE from 1 to 0.
 fn disables(cr: u32, register: Register, v: u32) -> bool
-    ensures { λ r. ⌜ r ≡ calls.disables cr register v ⌝ }
+    ensures { λ r. ⌜ r ≡ register-rules.disables cr register v ⌝ }
 {
     register.is_control() && (control::enable(cr) && !control::enable(v))
 }
@@ -145,7 +145,7 @@ fn disables(cr: u32, register: Register, v: u32) -> bool
 // An accepted write, of the device.
 pub fn write_at(d: Device, register: Register, v: u32) -> Device
     requires { ⌜ d .core .output .counts .discarded + d .core .output .held < 2 ^ 32 ⌝ }
-    ensures { λ r. ⌜ r ≡ calls.write-at d (At register) v ⌝ }
+    ensures { λ r. ⌜ r ≡ register-rules.write-at d (At register) v ⌝ }
 {
     let s = d.core.capture;
     let capture = write_register(register, v, s);

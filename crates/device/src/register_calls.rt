@@ -1,8 +1,8 @@
 // Register reads and writes, the interrupt line and re-arming.
 ghost use mathlib.Core.Path.{_≡_};
 ghost use Rattle.registers.specs.declared.Found.the-variants.{At};
-ghost use Rattle.rules.specs.RegisterCalls as calls;
-ghost use Rattle.device.specs.Answers as answers;
+ghost use Rattle.rules.specs.RegisterCalls as register-rules;
+ghost use Rattle.device.specs.Answers as device-answers;
 use crate::Changed;
 use crate::InterruptLine;
 use crate::Reading;
@@ -17,8 +17,8 @@ use registers::Register;
 use registers::control;
 use rules::Device;
 
-fn when(t: bool, n: u32) -> u32
-    ensures { λ r. ⌜ r ≡ calls.when t n ⌝ }
+fn number_if(t: bool, n: u32) -> u32
+    ensures { λ r. ⌜ r ≡ register-rules.number-if t n ⌝ }
 {
     if t {
         return n;
@@ -28,18 +28,18 @@ fn when(t: bool, n: u32) -> u32
 
 // SR.
 fn status(d: Device) -> u32
-    ensures { λ r. ⌜ r ≡ calls.status d ⌝ }
+    ensures { λ r. ⌜ r ≡ register-rules.status d ⌝ }
 {
     let cr = d.core.capture.registers.cr;
-    let hsync = when(blanks(d.core.capture.pins.hsync, control::hspol(cr)), 1);
-    let vsync = when(blanks(d.core.capture.pins.vsync, control::vspol(cr)), 2);
-    let fne = when(0 < d.core.output.held, 4);
+    let hsync = number_if(blanks(d.core.capture.pins.hsync, control::hspol(cr)), 1);
+    let vsync = number_if(blanks(d.core.capture.pins.vsync, control::vspol(cr)), 2);
+    let fne = number_if(0 < d.core.output.held, 4);
     hsync + vsync + fne
 }
 
 // What a register reads as.
 fn value(d: Device, register: Register) -> u32
-    ensures { λ r. ⌜ r ≡ calls.value d register ⌝ }
+    ensures { λ r. ⌜ r ≡ register-rules.value d register ⌝ }
 {
     match register {
         Register::Control => d.core.capture.registers.cr,
@@ -54,7 +54,7 @@ fn value(d: Device, register: Register) -> u32
 }
 
 fn no_read(access: Access) -> bool
-    ensures { λ r. ⌜ r ≡ calls.no-read access ⌝ }
+    ensures { λ r. ⌜ r ≡ register-rules.no-read access ⌝ }
 {
     match access {
         Access::ReadWrite => false,
@@ -64,7 +64,7 @@ fn no_read(access: Access) -> bool
 }
 
 fn no_write(access: Access) -> bool
-    ensures { λ r. ⌜ r ≡ calls.no-write access ⌝ }
+    ensures { λ r. ⌜ r ≡ register-rules.no-write access ⌝ }
 {
     match access {
         Access::ReadWrite => false,
@@ -75,7 +75,7 @@ fn no_write(access: Access) -> bool
 
 // A register read: refusals 1, 2, 3, or the value.
 pub fn read(d: Device, offset: u32) -> Reading
-    ensures { λ r. ⌜ answers.reading r ≡ calls.read d offset ⌝ }
+    ensures { λ r. ⌜ device-answers.reading r ≡ register-rules.read d offset ⌝ }
 {
     if malformed(d) {
         return Reading::Refused(Refusal::Malformed);
@@ -92,14 +92,14 @@ pub fn read(d: Device, offset: u32) -> Reading
 
 // Refusal 5, of a write to a register.
 fn unsupported_at(register: Register, v: u32) -> bool
-    ensures { λ r. ⌜ r ≡ calls.unsupported-at (At register) v ⌝ }
+    ensures { λ r. ⌜ r ≡ register-rules.unsupported-at (At register) v ⌝ }
 {
     register.is_control() && control::unsupported(v)
 }
 
 // Whether a CR bit other than 0 and 14 would change.
 fn changes_setup(cr: u32, v: u32) -> bool
-    ensures { λ r. ⌜ r ≡ calls.changes-setup cr v ⌝ }
+    ensures { λ r. ⌜ r ≡ register-rules.changes-setup cr v ⌝ }
 {
     if cr / 0x2 % 0x2000 != v / 0x2 % 0x2000 {
         return true;
@@ -108,21 +108,21 @@ fn changes_setup(cr: u32, v: u32) -> bool
 }
 
 fn fixed(cr: u32, register: Register, v: u32) -> bool
-    ensures { λ r. ⌜ r ≡ calls.fixed cr register v ⌝ }
+    ensures { λ r. ⌜ r ≡ register-rules.fixed cr register v ⌝ }
 {
     register.is_window() || (register.is_control() && changes_setup(cr, v))
 }
 
 // Refusal 6, of a write to a register.
 fn fixed_at(cr: u32, register: Register, v: u32) -> bool
-    ensures { λ r. ⌜ r ≡ calls.fixed-at cr (At register) v ⌝ }
+    ensures { λ r. ⌜ r ≡ register-rules.fixed-at cr (At register) v ⌝ }
 {
     control::enable(cr) && fixed(cr, register, v)
 }
 
 // A register write: refusals 1 to 6 in order, or its effect.
 pub fn write(d: Device, offset: u32, value: u32) -> Changed
-    ensures { λ r. ⌜ answers.changed r ≡ calls.write d offset value ⌝ }
+    ensures { λ r. ⌜ device-answers.changed r ≡ register-rules.write d offset value ⌝ }
 {
     if malformed(d) {
         return Changed {
@@ -170,7 +170,7 @@ pub fn write(d: Device, offset: u32, value: u32) -> Changed
 
 // The interrupt line is up exactly if MIS is not 0. Refusal 1.
 pub fn interrupt(d: Device) -> InterruptLine
-    ensures { λ r. ⌜ answers.line r ≡ calls.interrupt d ⌝ }
+    ensures { λ r. ⌜ device-answers.line r ≡ register-rules.interrupt d ⌝ }
 {
     if malformed(d) {
         return InterruptLine::Refused(Refusal::Malformed);
@@ -183,7 +183,7 @@ pub fn interrupt(d: Device) -> InterruptLine
 
 // Re-arming: the next word goes to place 0. Refusal 1.
 pub fn rearm(d: Device) -> Changed
-    ensures { λ r. ⌜ answers.changed r ≡ calls.rearm d ⌝ }
+    ensures { λ r. ⌜ device-answers.changed r ≡ register-rules.rearm d ⌝ }
 {
     if malformed(d) {
         return Changed {

@@ -4,10 +4,10 @@ ghost use mathlib.Core.Option.{some};
 ghost use Prim.Native.Nat.{ℕ, _+_, _<_, _^_};
 ghost use lib.Dec.{ltb};
 ghost use lib.ListN.{length};
-ghost use Rattle.rules.specs.Run as rules;
+ghost use Rattle.rules.specs.Run as run-rules;
 ghost use Rattle.sampling.specs.Answers.{landing};
 ghost use Rattle.refusals.specs.Table.{outcome};
-ghost use Rattle.device.specs.Answers as answers;
+ghost use Rattle.device.specs.Answers as device-answers;
 use crate::Changed;
 use crate::Reply;
 use crate::Sampled;
@@ -28,7 +28,7 @@ fn too_many(before: u32, samples: &[u32]) -> bool
 
 // A run's refusals 1, 9, 7, 8 in order.
 fn run_refusal(d: Device, memory: &[u8], start: usize, samples: &[u32]) -> Outcome
-    ensures { λ r. ⌜ outcome r ≡ rules.run-refusal d (now (memory .entry)) start (now (samples .entry)) ⌝ }
+    ensures { λ r. ⌜ outcome r ≡ run-rules.run-refusal d (now (memory .entry)) start (now (samples .entry)) ⌝ }
 {
     if malformed(d) {
         return Outcome::Refused(Refusal::Malformed);
@@ -47,7 +47,7 @@ fn run_refusal(d: Device, memory: &[u8], start: usize, samples: &[u32]) -> Outco
 
 // A run: refused, or the samples in order over the frame buffer, the part of memory from the start byte to its end.
 pub fn run(d: Device, memory: &mut [u8], start: usize, samples: &[u32]) -> Changed
-    ensures { λ r. ⌜ answers.ran r (now (memory .exit)) ≡ rules.run d (now (memory .entry)) start (now (samples .entry)) ⌝ }
+    ensures { λ r. ⌜ device-answers.ran r (now (memory .exit)) ≡ run-rules.run d (now (memory .entry)) start (now (samples .entry)) ⌝ }
 {
     let outcome = run_refusal(d, memory, start, samples);
     match outcome {
@@ -68,7 +68,7 @@ pub fn run(d: Device, memory: &mut [u8], start: usize, samples: &[u32]) -> Chang
 // A byte of the frame buffer as a byte of the lent memory.
 fn in_memory(start: usize, place: Landing) -> Landing
     requires { ⌜ ((b : ℕ) → landing place ≡ some b → start + b < 2 ^ 64) ⌝ }
-    ensures { λ r. ⌜ landing r ≡ rules.in-memory start (landing place) ⌝ }
+    ensures { λ r. ⌜ landing r ≡ run-rules.in-memory start (landing place) ⌝ }
 {
     match place {
         Landing::Nowhere => Landing::Nowhere,
@@ -78,7 +78,7 @@ fn in_memory(start: usize, place: Landing) -> Landing
 
 // One sample: refused as a run of it is, or its two answers.
 pub fn sample(d: Device, memory: &mut [u8], start: usize, w: u32) -> Sampled
-    ensures { λ r. ⌜ answers.sampled r (now (memory .exit)) ≡ rules.sample d (now (memory .entry)) start w ⌝ }
+    ensures { λ r. ⌜ device-answers.sampled r (now (memory .exit)) ≡ run-rules.sample d (now (memory .entry)) start w ⌝ }
 {
     let one = [w];
     let outcome = run_refusal(d, memory, start, &one);

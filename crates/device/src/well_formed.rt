@@ -5,10 +5,10 @@ ghost use Prim.Native.Nat.{_+_, _*_, _/_, _^_};
 ghost use lib.Dec.{eqb};
 ghost use lib.ListN.{drop};
 ghost use Rattle.registers.specs.Control.{edm};
-ghost use Rattle.packing.specs.Packing as packing;
-ghost use Rattle.output.specs.WellFormed as output;
+ghost use Rattle.packing.specs.Packing as packing-rules;
+ghost use Rattle.output.specs.WellFormed as output-clauses;
 ghost use Rattle.rules.specs.State as state;
-ghost use Rattle.rules.specs.WellFormed as wf;
+ghost use Rattle.rules.specs.WellFormed as device-clauses;
 use capture::frame::rate_period;
 use output::DEPTH;
 use output::Output;
@@ -24,7 +24,7 @@ use rules::Registers;
 
 // Whether the slots from one on are all 0.
 fn all_zero(slots: [u32; SLOTS], from: usize) -> bool
-    ensures { λ r. ⌜ r ≡ output.all-zero (drop from slots) ⌝ }
+    ensures { λ r. ⌜ r ≡ output-clauses.all-zero (drop from slots) ⌝ }
 {
     let mut i = from;
     while i < SLOTS {
@@ -37,7 +37,7 @@ fn all_zero(slots: [u32; SLOTS], from: usize) -> bool
 }
 
 fn bad_fifo(d: Device) -> bool
-    ensures { λ r. ⌜ r ≡ output.bad-fifo (state.output-of d) ⌝ }
+    ensures { λ r. ⌜ r ≡ output-clauses.bad-fifo (state.output-of d) ⌝ }
 {
     let held = d.core.output.held;
     if DEPTH < held {
@@ -49,7 +49,7 @@ fn bad_fifo(d: Device) -> bool
 
 // How many bits some data occupy.
 fn used(cr: u32, count: u32) -> u64
-    ensures { λ r. ⌜ r ≡ packing.width (edm cr) * count ⌝ }
+    ensures { λ r. ⌜ r ≡ packing-rules.width (edm cr) * count ⌝ }
 {
     width(control::edm(cr)) as u64 * count as u64
 }
@@ -65,19 +65,19 @@ fn above(bits: u32, used: u64) -> bool
 }
 
 fn unused_bits(s: Capture) -> bool
-    ensures { λ r. ⌜ r ≡ wf.unused-bits s ⌝ }
+    ensures { λ r. ⌜ r ≡ device-clauses.unused-bits s ⌝ }
 {
     above(s.partial.bits, used(s.registers.cr, s.partial.count))
 }
 
 fn full_partial(s: Capture) -> bool
-    ensures { λ r. ⌜ r ≡ wf.full-partial s ⌝ }
+    ensures { λ r. ⌜ r ≡ device-clauses.full-partial s ⌝ }
 {
     per_word(control::edm(s.registers.cr)) <= s.partial.count
 }
 
 fn excluded(r: Registers) -> bool
-    ensures { λ a. ⌜ a ≡ wf.excluded r ⌝ }
+    ensures { λ a. ⌜ a ≡ device-clauses.excluded r ⌝ }
 {
     if Register::Control.reserved_set(r.cr) {
         return true;
@@ -95,7 +95,7 @@ fn excluded(r: Registers) -> bool
 }
 
 fn bad_flags(r: Registers) -> bool
-    ensures { λ a. ⌜ a ≡ wf.bad-flags r ⌝ }
+    ensures { λ a. ⌜ a ≡ device-clauses.bad-flags r ⌝ }
 {
     if 31 < r.ris {
         return true;
@@ -122,7 +122,7 @@ fn is_taken(f: Frame) -> bool
 }
 
 fn lines(f: Frame) -> u32
-    ensures { λ r. ⌜ r ≡ wf.lines f ⌝ }
+    ensures { λ r. ⌜ r ≡ device-clauses.lines f ⌝ }
 {
     match f {
         Frame::Closed => 0,
@@ -131,7 +131,7 @@ fn lines(f: Frame) -> u32
 }
 
 fn pixels(f: Frame) -> u32
-    ensures { λ r. ⌜ r ≡ wf.pixels f ⌝ }
+    ensures { λ r. ⌜ r ≡ device-clauses.pixels f ⌝ }
 {
     match f {
         Frame::Closed => 0,
@@ -140,7 +140,7 @@ fn pixels(f: Frame) -> u32
 }
 
 fn active_disabled(d: Device) -> bool
-    ensures { λ r. ⌜ r ≡ wf.active-disabled d ⌝ }
+    ensures { λ r. ⌜ r ≡ device-clauses.active-disabled d ⌝ }
 {
     let s = d.core.capture;
     let frame = s.frame;
@@ -160,7 +160,7 @@ fn active_disabled(d: Device) -> bool
 }
 
 fn partial_outside(s: Capture) -> bool
-    ensures { λ r. ⌜ r ≡ wf.partial-outside s ⌝ }
+    ensures { λ r. ⌜ r ≡ device-clauses.partial-outside s ⌝ }
 {
     let frame = s.frame;
     if 0 < s.partial.count {
@@ -170,13 +170,13 @@ fn partial_outside(s: Capture) -> bool
 }
 
 fn bad_rate(s: Capture) -> bool
-    ensures { λ r. ⌜ r ≡ wf.bad-rate s ⌝ }
+    ensures { λ r. ⌜ r ≡ device-clauses.bad-rate s ⌝ }
 {
     rate_period(s.registers.cr) <= s.rate
 }
 
 fn above_samples(d: Device) -> bool
-    ensures { λ r. ⌜ r ≡ wf.above-samples d ⌝ }
+    ensures { λ r. ⌜ r ≡ device-clauses.above-samples d ⌝ }
 {
     let s = d.core.capture;
     let frame = s.frame;
@@ -190,7 +190,7 @@ fn above_samples(d: Device) -> bool
 }
 
 fn bad_place(o: Output) -> bool
-    ensures { λ r. ⌜ r ≡ output.bad-place o ⌝ }
+    ensures { λ r. ⌜ r ≡ output-clauses.bad-place o ⌝ }
 {
     o.counts.landed < o.place
 }
@@ -202,14 +202,14 @@ fn sum(landed: u32, held: u32, discarded: u32) -> u64
 }
 
 fn bad_counts(o: Output) -> bool
-    ensures { λ r. ⌜ r ≡ output.bad-counts o ⌝ }
+    ensures { λ r. ⌜ r ≡ output-clauses.bad-counts o ⌝ }
 {
     o.counts.completed as u64 != sum(o.counts.landed, o.held, o.counts.discarded)
 }
 
 // Whether the device is malformed.
 pub fn malformed(d: Device) -> bool
-    ensures { λ r. ⌜ r ≡ wf.malformed d ⌝ }
+    ensures { λ r. ⌜ r ≡ device-clauses.malformed d ⌝ }
 {
     let s = d.core.capture;
     let r = s.registers;

@@ -4,26 +4,26 @@ use mathlib.Core.Path.{_≡_, refl, _∙_}
 use Prim.Native.Nat.{ℕ, _<_}
 use types.Run.{OneOf, miss}
 use denote.Enum.Declared.{tagOf}
-use Rattle.trace.proofs.Item as kinds
-use Rattle.trace.proofs.Stretch as stretches
+use Rattle.trace.proofs.Item as item-kinds
+use Rattle.trace.proofs.Stretch as stretch-kinds
 use Rattle.trace.specs.declared.Item.{Item}
 use Rattle.trace.specs.declared.Item.the-variants.{Write, Sample, End, Refused}
 use Rattle.trace.specs.declared.Stretch.{Stretch}
-use Rattle.trace.specs.declared.Stretch.the-variants as parts
-use Rattle.trace.specs.Answers as answers
+use Rattle.trace.specs.declared.Stretch.the-variants as stretch-cases
+use Rattle.trace.specs.Answers as trace-answers
 use Rattle.trace.specs.Reading as reading
 use Rattle.trace.proofs.Walk.{clash, write-place}
 
-pub a-write : (file : List ℕ) (place : ℕ) (i : Item) → place < reading.write-count file → answers.item i ≡ reading.item file place → OneOf (1 ∷ 2 ∷ 3 ∷ []) (tagOf kinds.the-type i) → ⊥
+pub a-write : (file : List ℕ) (place : ℕ) (i : Item) → place < reading.write-count file → trace-answers.item i ≡ reading.item file place → OneOf (1 ∷ 2 ∷ 3 ∷ []) (tagOf item-kinds.the-type i) → ⊥
 a-write file place i h e k = go i k (e ∙ write-place file place h)
   where
-    go : (i : Item) → OneOf (1 ∷ 2 ∷ 3 ∷ []) (tagOf kinds.the-type i) → answers.item i ≡ reading.a-write (reading.write-at file place) → ⊥
+    go : (i : Item) → OneOf (1 ∷ 2 ∷ 3 ∷ []) (tagOf item-kinds.the-type i) → trace-answers.item i ≡ reading.a-write (reading.write-at file place) → ⊥
     go (Write v) k e = miss (1 ∷ 2 ∷ 3 ∷ []) 0 tt k
     go (Sample v) k e = clash cc
     go End k e = clash cc
     go (Refused v) k e = clash cc
 
-pub the-end : (s : Stretch) → OneOf (1 ∷ 2 ∷ []) (tagOf stretches.the-type s) → OneOf (0 ∷ 1 ∷ []) (tagOf stretches.the-type s) → s ≡ parts.End
-the-end (parts.Samples n) k l = absurd (miss (1 ∷ 2 ∷ []) 0 tt k)
-the-end parts.End k l = refl
-the-end (parts.Refused e) k l = absurd (miss (0 ∷ 1 ∷ []) 2 tt l)
+pub the-end : (s : Stretch) → OneOf (1 ∷ 2 ∷ []) (tagOf stretch-kinds.the-type s) → OneOf (0 ∷ 1 ∷ []) (tagOf stretch-kinds.the-type s) → s ≡ stretch-cases.End
+the-end (stretch-cases.Samples n) k l = absurd (miss (1 ∷ 2 ∷ []) 0 tt k)
+the-end stretch-cases.End k l = refl
+the-end (stretch-cases.Refused e) k l = absurd (miss (0 ∷ 1 ∷ []) 2 tt l)

@@ -16,7 +16,7 @@ use Rattle.rules.proofs.WellFormed.{WellFormed, well-formed}
 use Rattle.laws.proofs.Keeps.{steps-append, steps-keep}
 use Rattle.laws.proofs.KeepsSample.{step-samples}
 use Rattle.trace.specs.Reading.{form-refusal, sample-count, samples-from, samples-of, file-refusal}
-use Rattle.trace.specs.Answers as answers
+use Rattle.trace.specs.Answers as trace-answers
 use Rattle.trace.specs.Stretches.{give}
 use Rattle.trace.specs.declared.Stretch.{Stretch}
 use Rattle.trace.specs.declared.Stretch.the-variants.{Samples, End, Refused}
@@ -66,7 +66,7 @@ stepping-start f buffer array d well zero-samples taken room =
 
 module _ {f buffer₀ : List ℕ} {d₀ : Device} {buffer : List ℕ} {d : Device} {k : ℕ} {array : List ℕ} (s : Stepping f buffer₀ d₀ buffer d k array) where
   -- What a stretch says here: samples, or the end, and no refusal.
-  module _ (accepted : file-refusal f ≡ 0) {array′ : List ℕ} {told : Stretch} (e : answers.given told array′ ≡ give f k array) where
+  module _ (accepted : file-refusal f ≡ 0) {array′ : List ℕ} {told : Stretch} (e : trace-answers.given told array′ ≡ give f k array) where
     pub stepping-taken : {n : ℕ} → told ≡ Samples n → Part f k array array′ n
     stepping-taken {n} t = taken-part f k array array′ (accepted-file f accepted .0) (s .fine) n (rw t at e)
 

@@ -4,15 +4,15 @@ use Prim.Native.Nat.{ℕ}
 use Rattle.refusals.specs.Refusals as refusals
 use Rattle.refusals.specs.Table.{number}
 use Rattle.refusals.specs.declared.Outcome.{Outcome}
-use Rattle.refusals.specs.declared.Outcome.the-variants as outcomes
+use Rattle.refusals.specs.declared.Outcome.the-variants as outcome-cases
 use Rattle.rules.specs.declared.Device.{Device}
 use Rattle.files.specs.File.{FileResult}
 use Rattle.files.specs.declared.Ran.{Ran}
 
 -- The device after an accepted file, or a refusal with its number and no device.
 abbrev pub answer : Outcome → Device → refusals.Answer Device
-answer outcomes.Accepted d = refusals.answered d
-answer (outcomes.Refused e) d = refusals.refused (number e)
+answer outcome-cases.Accepted d = refusals.answered d
+answer (outcome-cases.Refused e) d = refusals.refused (number e)
 
 abbrev pub ran : Ran → List ℕ → FileResult
 ran r memory = record { answer = answer (r .outcome) (r .device); memory = memory }

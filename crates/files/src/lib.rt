@@ -3,14 +3,14 @@
 ghost use mathlib.Core.Bool.{false};
 ghost use mathlib.Core.Path.{_≡_};
 ghost use Rattle.rules.specs.State as state;
-ghost use Rattle.rules.specs.RegisterCalls as register-calls;
-ghost use Rattle.rules.specs.Run as rules;
+ghost use Rattle.rules.specs.RegisterCalls as register-rules;
+ghost use Rattle.rules.specs.Run as run-rules;
 ghost use Rattle.rules.specs.WellFormed.{malformed};
 ghost use Rattle.rules.proofs.WellFormed.{WellFormed};
 ghost use Rattle.trace.specs.Reading as reading;
-ghost use Rattle.device.specs.Answers as calls;
+ghost use Rattle.device.specs.Answers as device-answers;
 ghost use Rattle.files.specs.File as file-rules;
-ghost use Rattle.files.specs.Answers as answers;
+ghost use Rattle.files.specs.Answers as file-answers;
 use device::Changed;
 use refusals::Outcome;
 use refusals::Refusal;
@@ -33,14 +33,14 @@ pub struct Ran {
 
 // One write of a file.
 fn write_item(d: Device, w: Write) -> Changed
-    ensures { λ r. ⌜ calls.changed r ≡ register-calls.write d (w .offset) (w .value) ⌝ }
+    ensures { λ r. ⌜ device-answers.changed r ≡ register-rules.write d (w .offset) (w .value) ⌝ }
 {
     device::write(d, w.offset as u32, w.value)
 }
 
 // The writes of a file on a fresh device, up to the first that is refused. Before the last of them no sample, end or refusal is read.
 fn set_up(file: &[u8]) -> Changed
-    ensures { λ r. ⌜ calls.changed r ≡ file-rules.set-up state.fresh (reading.writes-of (now (file .entry))) ⌝ }
+    ensures { λ r. ⌜ device-answers.changed r ≡ file-rules.set-up state.fresh (reading.writes-of (now (file .entry))) ⌝ }
     ensures { λ r. ⌜ (malformed (r .device) ≡ false) × (r .device .core .output .counts .samples ≡ 0) ⌝ }
 {
     let writes = write_count(file);
@@ -79,7 +79,7 @@ fn steps(d: Device, buffer: &mut [u8], file: &[u8]) -> Ran
     requires { ⌜ WellFormed d ⌝ }
     requires { ⌜ d .core .output .counts .samples ≡ 0 ⌝ }
     requires { ⌜ reading.file-refusal (now file) ≡ 0 ⌝ }
-    ensures { λ r. ⌜ answers.ran r (now (buffer .exit)) ≡ file-rules.stepped (rules.steps d (now (buffer .entry)) (reading.samples-of (now (file .entry)))) ⌝ }
+    ensures { λ r. ⌜ file-answers.ran r (now (buffer .exit)) ≡ file-rules.stepped (run-rules.steps d (now (buffer .entry)) (reading.samples-of (now (file .entry)))) ⌝ }
 {
     let mut e = d;
     let mut done = 0;
@@ -108,7 +108,7 @@ fn run_samples(d: Device, file: &[u8], memory: &mut [u8], start: usize) -> Ran
     requires { ⌜ malformed d ≡ false ⌝ }
     requires { ⌜ d .core .output .counts .samples ≡ 0 ⌝ }
     requires { ⌜ reading.form-refusal (now file) ≡ 0 ⌝ }
-    ensures { λ r. ⌜ answers.ran r (now (memory .exit)) ≡ file-rules.of-run (rules.run d (now (memory .entry)) start (reading.samples-of (now (file .entry)))) ⌝ }
+    ensures { λ r. ⌜ file-answers.ran r (now (memory .exit)) ≡ file-rules.of-run (run-rules.run d (now (memory .entry)) start (reading.samples-of (now (file .entry)))) ⌝ }
 {
     if memory.len() < start {
         return Ran {
@@ -128,7 +128,7 @@ fn run_samples(d: Device, file: &[u8], memory: &mut [u8], start: usize) -> Ran
 
 // A trace file on a fresh device, over the memory from the start byte on. Refusals 13, 10, 11, 12, 13, the first refused write's number, 9, 7, 8.
 pub fn run_file(file: &[u8], memory: &mut [u8], start: usize) -> Ran
-    ensures { λ r. ⌜ answers.ran r (now (memory .exit)) ≡ file-rules.run-file (now (file .entry)) (now (memory .entry)) start ⌝ }
+    ensures { λ r. ⌜ file-answers.ran r (now (memory .exit)) ≡ file-rules.run-file (now (file .entry)) (now (memory .entry)) start ⌝ }
 {
     let form = check_form(file);
     let Outcome::Accepted = form else {

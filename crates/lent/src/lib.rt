@@ -1,16 +1,16 @@
 // The calls that change a device, over a device that is lent: a register write, a run and one sample. Each says its answer, the device
 // and the memory afterwards as one equation with a definition of the crate `rules`; refused, they are as they were.
 ghost use mathlib.Core.Path.{_≡_};
-ghost use Rattle.rules.specs.RegisterCalls as calls;
-ghost use Rattle.rules.specs.Run as rules;
-ghost use Rattle.device.specs.Answers as answers;
+ghost use Rattle.rules.specs.RegisterCalls as register-rules;
+ghost use Rattle.rules.specs.Run as run-rules;
+ghost use Rattle.device.specs.Answers as device-answers;
 use device::Reply;
 use refusals::Outcome;
 use rules::Device;
 
 // A register write.
 pub fn write<'d>(d: &'d mut Device, offset: u32, value: u32) -> Outcome
-    ensures { λ r. ⌜ answers.changed (record { device = now (d .exit); outcome = r }) ≡ calls.write (now (d .entry)) offset value ⌝ }
+    ensures { λ r. ⌜ device-answers.changed (record { device = now (d .exit); outcome = r }) ≡ register-rules.write (now (d .entry)) offset value ⌝ }
 {
     let after = device::write(*d, offset, value);
     *d = after.device;
@@ -24,7 +24,7 @@ pub fn run<'d, 'm, 's>(
     start: usize,
     samples: &'s [u32],
 ) -> Outcome
-    ensures { λ r. ⌜ answers.ran (record { device = now (d .exit); outcome = r }) (now (memory .exit)) ≡ rules.run (now (d .entry)) (now (memory .entry)) start (now (samples .entry)) ⌝ }
+    ensures { λ r. ⌜ device-answers.ran (record { device = now (d .exit); outcome = r }) (now (memory .exit)) ≡ run-rules.run (now (d .entry)) (now (memory .entry)) start (now (samples .entry)) ⌝ }
 {
     let after = device::run(*d, memory, start, samples);
     *d = after.device;
@@ -33,7 +33,7 @@ pub fn run<'d, 'm, 's>(
 
 // One sample.
 pub fn sample<'d, 'm>(d: &'d mut Device, memory: &'m mut [u8], start: usize, w: u32) -> Reply
-    ensures { λ r. ⌜ answers.sampled (record { device = now (d .exit); reply = r }) (now (memory .exit)) ≡ rules.sample (now (d .entry)) (now (memory .entry)) start w ⌝ }
+    ensures { λ r. ⌜ device-answers.sampled (record { device = now (d .exit); reply = r }) (now (memory .exit)) ≡ run-rules.sample (now (d .entry)) (now (memory .entry)) start w ⌝ }
 {
     let after = device::sample(*d, memory, start, w);
     *d = after.device;

@@ -7,9 +7,9 @@ ghost use Prim.Native.Nat.{_+_, _-_, _≤_, _<_, _^_};
 ghost use mathlib.Core.Bool.{true};
 ghost use mathlib.Core.List.{[], _∷_, _++_};
 ghost use lib.ListN.{length, take, drop, getD};
-ghost use Rattle.output.specs.Output as rules;
+ghost use Rattle.output.specs.Output as output-rules;
 ghost use Rattle.output.specs.WellFormed.{Laid};
-ghost use Rattle.output.specs.Answers as answers;
+ghost use Rattle.output.specs.Answers as output-answers;
 
 // How many slots there are, and how many words the FIFO holds at most.
 pub const SLOTS: usize = 4;
@@ -63,7 +63,7 @@ pub fn apart(o: Output) -> Output
 // One more sample.
 pub fn count_sample(o: Output) -> Output
     requires { ⌜ o .counts .samples + 1 < 2 ^ 32 ⌝ }
-    ensures { λ r. ⌜ r ≡ rules.count-sample o ⌝ }
+    ensures { λ r. ⌜ r ≡ output-rules.count-sample o ⌝ }
 {
     let mut counted = apart(o);
     let samples = o.counts.samples + 1;
@@ -73,7 +73,7 @@ pub fn count_sample(o: Output) -> Output
 
 // The slots moved down by one.
 fn move_down(slots: &mut [u32; SLOTS])
-    requires { ⌜ length (now slots) ≡ rules.slot-count ⌝ }
+    requires { ⌜ length (now slots) ≡ output-rules.slot-count ⌝ }
     ensures { λ _. ⌜ now (slots .exit) ≡ drop 1 (now (slots .entry)) ++ 0 ∷ [] ⌝ }
 {
     let mut i = 0;
@@ -86,7 +86,7 @@ fn move_down(slots: &mut [u32; SLOTS])
 
 // Whether word k has room in a frame buffer of some length.
 fn room(k: u32, buffer: &[u8]) -> bool
-    ensures { λ r. ⌜ r ≡ rules.room k (now (buffer .entry)) ⌝ }
+    ensures { λ r. ⌜ r ≡ output-rules.room k (now (buffer .entry)) ⌝ }
 {
     4 * (k as usize) + 4 <= buffer.len()
 }
@@ -94,7 +94,7 @@ fn room(k: u32, buffer: &[u8]) -> bool
 // A word stored little-endian from a byte on.
 fn store(buffer: &mut [u8], at: usize, v: u32)
     requires { ⌜ at + 4 ≤ length (now buffer) ⌝ }
-    ensures { λ _. ⌜ now (buffer .exit) ≡ take at (now (buffer .entry)) ++ rules.bytes v ++ drop (at + 4) (now (buffer .entry)) ⌝ }
+    ensures { λ _. ⌜ now (buffer .exit) ≡ take at (now (buffer .entry)) ++ output-rules.bytes v ++ drop (at + 4) (now (buffer .entry)) ⌝ }
 {
     buffer[at] = (v % 256) as u8;
     buffer[at + 1] = (v / 256 % 256) as u8;
@@ -105,7 +105,7 @@ fn store(buffer: &mut [u8], at: usize, v: u32)
 // One word more has landed, and one less is held.
 fn landed(o: Output) -> Output
     requires { ⌜ (0 < o .held) × (o .place + 1 < 2 ^ 32) × (o .counts .landed + 1 < 2 ^ 32) ⌝ }
-    ensures { λ r. ⌜ r ≡ rules.with-held (o .held - 1) (rules.count-landed o) ⌝ }
+    ensures { λ r. ⌜ r ≡ output-rules.with-held (o .held - 1) (output-rules.count-landed o) ⌝ }
 {
     let mut after = apart(o);
     let held = o.held - 1;
@@ -119,10 +119,10 @@ fn landed(o: Output) -> Output
 
 // Rule 1 where the bus grants and ENABLE is 1: the oldest held word, if there is one and it has room, goes to the next place.
 fn oldest_lands(o: Output, slots: &mut [u32; SLOTS], buffer: &mut [u8]) -> Output
-    requires { ⌜ Laid (answers.left o (now slots)) ⌝ }
+    requires { ⌜ Laid (output-answers.left o (now slots)) ⌝ }
     requires { ⌜ (o .place + 1 < 2 ^ 32) × (o .counts .landed + 1 < 2 ^ 32) ⌝ }
-    ensures { λ r. ⌜ answers.left r (now (slots .exit)) ≡ rules.grant true true (answers.left o (now (slots .entry))) (now (buffer .entry)) .state ⌝ }
-    ensures { λ _. ⌜ now (buffer .exit) ≡ rules.grant true true (answers.left o (now (slots .entry))) (now (buffer .entry)) .buffer ⌝ }
+    ensures { λ r. ⌜ output-answers.left r (now (slots .exit)) ≡ output-rules.grant true true (output-answers.left o (now (slots .entry))) (now (buffer .entry)) .state ⌝ }
+    ensures { λ _. ⌜ now (buffer .exit) ≡ output-rules.grant true true (output-answers.left o (now (slots .entry))) (now (buffer .entry)) .buffer ⌝ }
 {
     if 0 < o.held {
         if room(o.place, buffer) {
@@ -144,10 +144,10 @@ pub fn grant(
     slots: &mut [u32; SLOTS],
     buffer: &mut [u8],
 ) -> Output
-    requires { ⌜ Laid (answers.left o (now slots)) ⌝ }
+    requires { ⌜ Laid (output-answers.left o (now slots)) ⌝ }
     requires { ⌜ (o .place + 1 < 2 ^ 32) × (o .counts .landed + 1 < 2 ^ 32) ⌝ }
-    ensures { λ r. ⌜ answers.left r (now (slots .exit)) ≡ rules.grant granted enabled (answers.left o (now (slots .entry))) (now (buffer .entry)) .state ⌝ }
-    ensures { λ _. ⌜ now (buffer .exit) ≡ rules.grant granted enabled (answers.left o (now (slots .entry))) (now (buffer .entry)) .buffer ⌝ }
+    ensures { λ r. ⌜ output-answers.left r (now (slots .exit)) ≡ output-rules.grant granted enabled (output-answers.left o (now (slots .entry))) (now (buffer .entry)) .state ⌝ }
+    ensures { λ _. ⌜ now (buffer .exit) ≡ output-rules.grant granted enabled (output-answers.left o (now (slots .entry))) (now (buffer .entry)) .buffer ⌝ }
 {
     if granted {
         if enabled {
@@ -161,7 +161,7 @@ pub fn grant(
 // One word more is completed.
 fn count_word(o: Output) -> Output
     requires { ⌜ o .counts .completed + 1 < 2 ^ 32 ⌝ }
-    ensures { λ r. ⌜ r ≡ rules.count-word o ⌝ }
+    ensures { λ r. ⌜ r ≡ output-rules.count-word o ⌝ }
 {
     let mut counted = apart(o);
     let completed = o.counts.completed + 1;
@@ -172,7 +172,7 @@ fn count_word(o: Output) -> Output
 // A word more is held.
 fn one_more(o: Output) -> Output
     requires { ⌜ o .held + 1 < 2 ^ 32 ⌝ }
-    ensures { λ r. ⌜ r ≡ rules.with-held (o .held + 1) o ⌝ }
+    ensures { λ r. ⌜ r ≡ output-rules.with-held (o .held + 1) o ⌝ }
 {
     let mut after = apart(o);
     let held = o.held + 1;
@@ -182,9 +182,9 @@ fn one_more(o: Output) -> Output
 
 // Rule 9: a full word is counted, and held where fewer than the depth are.
 pub fn offer(v: u32, o: Output, slots: &mut [u32; SLOTS]) -> Offered
-    requires { ⌜ Laid (answers.left o (now slots)) ⌝ }
+    requires { ⌜ Laid (output-answers.left o (now slots)) ⌝ }
     requires { ⌜ o .counts .completed + 1 < 2 ^ 32 ⌝ }
-    ensures { λ r. ⌜ answers.offered r (now (slots .exit)) ≡ rules.offer v (answers.left o (now (slots .entry))) ⌝ }
+    ensures { λ r. ⌜ output-answers.offered r (now (slots .exit)) ≡ output-rules.offer v (output-answers.left o (now (slots .entry))) ⌝ }
 {
     let counted = count_word(o);
     if o.held < DEPTH {
@@ -204,7 +204,7 @@ pub fn offer(v: u32, o: Output, slots: &mut [u32; SLOTS]) -> Offered
 // The held words and some more besides are discarded.
 pub fn discard(more: u32, o: Output, slots: &mut [u32; SLOTS]) -> Output
     requires { ⌜ o .counts .discarded + o .held + more < 2 ^ 32 ⌝ }
-    ensures { λ r. ⌜ answers.left r (now (slots .exit)) ≡ rules.discard more (answers.left o (now (slots .entry))) ⌝ }
+    ensures { λ r. ⌜ output-answers.left r (now (slots .exit)) ≡ output-rules.discard more (output-answers.left o (now (slots .entry))) ⌝ }
 {
     *slots = [0; SLOTS];
     let mut after = apart(o);
@@ -233,7 +233,7 @@ fn wide(x: u8) -> u32
 
 // A landed word read back: the one whose four bytes stand from a byte of a memory on.
 pub fn word_at(memory: &[u8], at: usize) -> u32
-    ensures { λ r. ⌜ r ≡ rules.word-at (now (memory .entry)) at ⌝ }
+    ensures { λ r. ⌜ r ≡ output-rules.word-at (now (memory .entry)) at ⌝ }
 {
     if at < memory.len() {
         let first = wide(byte(memory, at));

@@ -2,19 +2,19 @@
 // EDM of at most 3.
 ghost use mathlib.Core.Path.{_≡_};
 ghost use Prim.Native.Nat.{_*_, _≤_, _<_, _^_};
-ghost use Rattle.packing.specs.Packing as rules;
+ghost use Rattle.packing.specs.Packing as packing-rules;
 
 // How many data bits are kept.
 pub fn width(edm: u32) -> u32
     requires { ⌜ edm ≤ 3 ⌝ }
-    ensures { λ r. ⌜ r ≡ rules.width edm ⌝ }
+    ensures { λ r. ⌜ r ≡ packing-rules.width edm ⌝ }
 {
     8 + 2 * edm
 }
 
 // How many bits of a word a datum has.
 fn lane(edm: u32) -> u32
-    ensures { λ r. ⌜ r ≡ rules.lane edm ⌝ }
+    ensures { λ r. ⌜ r ≡ packing-rules.lane edm ⌝ }
 {
     if edm == 0 {
         return 8;
@@ -24,7 +24,7 @@ fn lane(edm: u32) -> u32
 
 // How many data make a word.
 pub fn per_word(edm: u32) -> u32
-    ensures { λ r. ⌜ r ≡ rules.per-word edm ⌝ }
+    ensures { λ r. ⌜ r ≡ packing-rules.per-word edm ⌝ }
 {
     if edm == 0 {
         return 4;
@@ -35,7 +35,7 @@ pub fn per_word(edm: u32) -> u32
 // The bits that are kept of a datum.
 fn kept(edm: u32, datum: u32) -> u32
     requires { ⌜ edm ≤ 3 ⌝ }
-    ensures { λ r. ⌜ r ≡ rules.kept edm datum ⌝ }
+    ensures { λ r. ⌜ r ≡ packing-rules.kept edm datum ⌝ }
 {
     if edm == 0 {
         return datum % 0x100;
@@ -51,8 +51,8 @@ fn kept(edm: u32, datum: u32) -> u32
 
 // A datum at its place in the word, behind `count` others.
 fn placed(edm: u32, count: u32, datum: u32) -> u32
-    requires { ⌜ (count < rules.per-word edm) × (datum * 2 ^ (rules.lane edm * count) < 2 ^ 32) ⌝ }
-    ensures { λ r. ⌜ r ≡ datum * 2 ^ (rules.lane edm * count) ⌝ }
+    requires { ⌜ (count < packing-rules.per-word edm) × (datum * 2 ^ (packing-rules.lane edm * count) < 2 ^ 32) ⌝ }
+    ensures { λ r. ⌜ r ≡ datum * 2 ^ (packing-rules.lane edm * count) ⌝ }
 {
     if count == 0 {
         return datum;
@@ -72,8 +72,8 @@ fn placed(edm: u32, count: u32, datum: u32) -> u32
 // The bits of some data of a word, with one datum more above them.
 pub fn joined(edm: u32, count: u32, bits: u32, datum: u32) -> u32
     requires { ⌜ edm ≤ 3 ⌝ }
-    requires { ⌜ rules.Joins edm count bits datum ⌝ }
-    ensures { λ r. ⌜ r ≡ rules.joined edm count bits datum ⌝ }
+    requires { ⌜ packing-rules.Joins edm count bits datum ⌝ }
+    ensures { λ r. ⌜ r ≡ packing-rules.joined edm count bits datum ⌝ }
 {
     bits + placed(edm, count, kept(edm, datum))
 }

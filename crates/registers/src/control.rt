@@ -1,76 +1,76 @@
 // The fields of CR.
 ghost use mathlib.Core.Path.{_≡_};
-ghost use Rattle.registers.specs.Control as fields;
+ghost use Rattle.registers.specs.Control as control-fields;
 
 pub fn capture(cr: u32) -> bool
-    ensures { λ r. ⌜ r ≡ fields.capture cr ⌝ }
+    ensures { λ r. ⌜ r ≡ control-fields.capture cr ⌝ }
 {
     cr % 2 == 1
 }
 
 pub fn snapshot(cr: u32) -> bool
-    ensures { λ r. ⌜ r ≡ fields.snapshot cr ⌝ }
+    ensures { λ r. ⌜ r ≡ control-fields.snapshot cr ⌝ }
 {
     cr / 0x2 % 2 == 1
 }
 
 pub fn crop(cr: u32) -> bool
-    ensures { λ r. ⌜ r ≡ fields.crop cr ⌝ }
+    ensures { λ r. ⌜ r ≡ control-fields.crop cr ⌝ }
 {
     cr / 0x4 % 2 == 1
 }
 
 pub fn jpeg(cr: u32) -> bool
-    ensures { λ r. ⌜ r ≡ fields.jpeg cr ⌝ }
+    ensures { λ r. ⌜ r ≡ control-fields.jpeg cr ⌝ }
 {
     cr / 0x8 % 2 == 1
 }
 
 pub fn embedded(cr: u32) -> bool
-    ensures { λ r. ⌜ r ≡ fields.embedded cr ⌝ }
+    ensures { λ r. ⌜ r ≡ control-fields.embedded cr ⌝ }
 {
     cr / 0x10 % 2 == 1
 }
 
 pub fn pckpol(cr: u32) -> bool
-    ensures { λ r. ⌜ r ≡ fields.pckpol cr ⌝ }
+    ensures { λ r. ⌜ r ≡ control-fields.pckpol cr ⌝ }
 {
     cr / 0x20 % 2 == 1
 }
 
 pub fn hspol(cr: u32) -> bool
-    ensures { λ r. ⌜ r ≡ fields.hspol cr ⌝ }
+    ensures { λ r. ⌜ r ≡ control-fields.hspol cr ⌝ }
 {
     cr / 0x40 % 2 == 1
 }
 
 pub fn vspol(cr: u32) -> bool
-    ensures { λ r. ⌜ r ≡ fields.vspol cr ⌝ }
+    ensures { λ r. ⌜ r ≡ control-fields.vspol cr ⌝ }
 {
     cr / 0x80 % 2 == 1
 }
 
 pub fn fcrc(cr: u32) -> u32
-    ensures { λ r. ⌜ r ≡ fields.fcrc cr ⌝ }
+    ensures { λ r. ⌜ r ≡ control-fields.fcrc cr ⌝ }
 {
     cr / 0x100 % 4
 }
 
 pub fn edm(cr: u32) -> u32
-    ensures { λ r. ⌜ r ≡ fields.edm cr ⌝ }
+    ensures { λ r. ⌜ r ≡ control-fields.edm cr ⌝ }
 {
     cr / 0x400 % 4
 }
 
 pub fn enable(cr: u32) -> bool
-    ensures { λ r. ⌜ r ≡ fields.enable cr ⌝ }
+    ensures { λ r. ⌜ r ≡ control-fields.enable cr ⌝ }
 {
     cr / 0x4000 % 2 == 1
 }
 
 // Whether the value is one that CR refuses: JPEG, embedded codes, FCRC 3, or CAPTURE without ENABLE.
 pub fn unsupported(cr: u32) -> bool
-    ensures { λ r. ⌜ r ≡ fields.unsupported cr ⌝ }
+    ensures { λ r. ⌜ r ≡ control-fields.unsupported cr ⌝ }
 {
     if jpeg(cr) {
         return true;

@@ -5,7 +5,7 @@ use mathlib.Core.Path.{_≡_, refl, sym, _∙_}
 use Prim.Native.Nat.{ℕ, _≤_, zero-le}
 use native.Mathlib.Nat.{le-refl}
 use Rattle.bits.proofs.Booleans.{or-false}
-use Rattle.rules.specs.WellFormed.{any}
+use Rattle.rules.specs.WellFormed.{one-holds}
 
 pub both-false : (a b : Bool) → a ≡ false → b ≡ false → a || b ≡ false
 both-false true b e f = absurd (true≢false e)
@@ -37,13 +37,13 @@ abbrev pub None : List Bool → Type 0
 None [] = Unit {0}
 None (t ∷ ts) = (t ≡ false) × None ts
 
-pub none : (ts : List Bool) → any ts ≡ false → None ts
+pub none : (ts : List Bool) → one-holds ts ≡ false → None ts
 none [] e = tt
-none (t ∷ ts) e = let (h, rest) = or-false t (any ts) e in (h, none ts rest)
+none (t ∷ ts) e = let (h, rest) = or-false t (one-holds ts) e in (h, none ts rest)
 
-pub none-any : (ts : List Bool) → None ts → any ts ≡ false
+pub none-any : (ts : List Bool) → None ts → one-holds ts ≡ false
 none-any [] n = refl
-none-any (t ∷ ts) n = both-false t (any ts) (n .0) (none-any ts (n .1))
+none-any (t ∷ ts) n = both-false t (one-holds ts) (n .0) (none-any ts (n .1))
 
 pub cond-le : (b : Bool) (n : ℕ) → cond b n 0 ≤ n
 cond-le true n = le-refl n

@@ -17,7 +17,7 @@ use Rattle.output.specs.WellFormed.{all-zero, bad-fifo, bad-place, bad-counts}
 use Rattle.output.proofs.WellFormed.{OutputOk}
 use Rattle.rules.specs.State.{output-of, is-open, is-taken}
 use Rattle.rules.specs.Capture.{rate-period}
-use Rattle.rules.specs.WellFormed.{lines, pixels, unused-bits, full-partial, excluded, bad-flags, active-disabled, partial-outside, bad-rate, above-samples, malformed, any, clauses}
+use Rattle.rules.specs.WellFormed.{lines, pixels, unused-bits, full-partial, excluded, bad-flags, active-disabled, partial-outside, bad-rate, above-samples, malformed, one-holds, clauses}
 use Rattle.bits.proofs.Booleans.{or-false}
 use Rattle.rules.proofs.Booleans.{both-false, and-false, imp-and-false, not-is-false, not-is-true, None, none, none-any}
 
@@ -53,7 +53,7 @@ above d =
 idle : (d : Device) → active-disabled d ≡ false → enable (d .core .capture .registers .cr) ≡ false → None (idles d)
 unfolding active-disabled idles
 idle d e off =
-    none (idles d) (and-false (not (enable (d .core .capture .registers .cr))) (any (idles d)) e (not-is-true _ off))
+    none (idles d) (and-false (not (enable (d .core .capture .registers .cr))) (one-holds (idles d)) e (not-is-true _ off))
 
 is-zero : (n : ℕ) → ltb 0 n ≡ false → n ≡ 0
 is-zero n e = let h : n ≤ 0 = ltb-false 0 n e in omega arith

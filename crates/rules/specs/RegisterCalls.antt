@@ -23,16 +23,16 @@ use Rattle.refusals.specs.Refusals.{Test, _⇒_, first, Answer, answer}
 use Rattle.rules.specs.Answers.{Changed, change}
 use Rattle.rules.specs.WellFormed.{malformed}
 
--- n where a test holds, else 0.
-abbrev pub when : Bool → ℕ → ℕ
-when t n = cond t n 0
+-- The number n where a test holds, else 0.
+abbrev pub number-if : Bool → ℕ → ℕ
+number-if t n = cond t n 0
 
 -- SR (004, 32.5.2): HSYNC and VSYNC while that pin of the last sample blanks, FNE while a word is held.
 unfoldable pub status : Device → ℕ
 status d =
-    when (Bool·beq (d .core .capture .pins .hsync) (hspol (d .core .capture .registers .cr))) 1 +
-    when (Bool·beq (d .core .capture .pins .vsync) (vspol (d .core .capture .registers .cr))) 2 +
-    when (ltb 0 (d .core .output .held)) 4
+    number-if (Bool·beq (d .core .capture .pins .hsync) (hspol (d .core .capture .registers .cr))) 1 +
+    number-if (Bool·beq (d .core .capture .pins .vsync) (vspol (d .core .capture .registers .cr))) 2 +
+    number-if (ltb 0 (d .core .output .held)) 4
 
 -- MIS (004, 32.5.5): the bits that are 1 in both RIS and IER.
 unfoldable pub masked : Registers → ℕ

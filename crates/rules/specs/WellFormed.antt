@@ -18,9 +18,9 @@ use Rattle.rules.specs.State.{output-of, is-open, is-taken}
 use Rattle.rules.specs.Capture.{rate-period}
 
 -- One of the tests holds.
-abbrev pub any : List Bool → Bool
-any [] = false
-any (t ∷ ts) = t || any ts
+abbrev pub one-holds : List Bool → Bool
+one-holds [] = false
+one-holds (t ∷ ts) = t || one-holds ts
 
 -- Of a frame: its lines begun and the pixels of the last; 0 of a closed one.
 abbrev pub lines : Frame → ℕ
@@ -42,7 +42,7 @@ full-partial s = leb (per-word (edm (s .registers .cr))) (s .partial .count)
 -- Register contents that refusals 4 and 5 exclude.
 unfoldable pub excluded : Registers → Bool
 excluded r =
-    any
+    one-holds
     (reserved-set Control (r .cr) ∷
     reserved-set InterruptEnable (r .ier) ∷
     reserved-set WindowStart (r .cwstrt) ∷
@@ -58,7 +58,7 @@ bad-flags r = ltb 31 (r .ris) || ltb 31 (r .ier)
 unfoldable pub active-disabled : Device → Bool
 active-disabled d =
     not (enable (d .core .capture .registers .cr)) &&
-    any (is-open (d .core .capture .frame) ∷ ltb 0 (d .core .output .held) ∷ ltb 0 (d .core .capture .partial .count) ∷ ltb 0 (d .core .capture .rate) ∷ [])
+    one-holds (is-open (d .core .capture .frame) ∷ ltb 0 (d .core .output .held) ∷ ltb 0 (d .core .capture .partial .count) ∷ ltb 0 (d .core .capture .rate) ∷ [])
 
 -- A partial one outside a taken open frame.
 unfoldable pub partial-outside : Capture → Bool
@@ -71,7 +71,7 @@ bad-rate s = leb (rate-period (s .registers .cr)) (s .rate)
 -- Line, column or completed above samples.
 unfoldable pub above-samples : Device → Bool
 above-samples d =
-    any
+    one-holds
     (ltb (d .core .output .counts .samples) (lines (d .core .capture .frame)) ∷
     ltb (d .core .output .counts .samples) (pixels (d .core .capture .frame)) ∷
     ltb (d .core .output .counts .samples) (d .core .output .counts .completed) ∷
@@ -95,4 +95,4 @@ clauses d =
 
 -- Malformed means one of them: refusal 1.
 unfoldable pub malformed : Device → Bool
-malformed d = any (clauses d)
+malformed d = one-holds (clauses d)

@@ -4,9 +4,9 @@ ghost use mathlib.Core.List.{[], _∷_};
 ghost use mathlib.Core.Path.{_≡_};
 ghost use Prim.Native.Nat.{_<_};
 ghost use lib.ListN.{getD};
-ghost use Rattle.rules.specs.RegisterCalls as calls;
+ghost use Rattle.rules.specs.RegisterCalls as register-rules;
 ghost use Rattle.rules.specs.State as state;
-ghost use Rattle.sampling.specs.Answers as answers;
+ghost use Rattle.sampling.specs.Answers as sample-answers;
 ghost use Rattle.sample_log.specs.Samples.{trace-t, samples};
 use device::Reading;
 use device::Reply;
@@ -154,7 +154,7 @@ fn trace_t(i: usize) -> u32
 
 // One sample: the device is lent for it, what it answered and what the device then holds are printed, and the device is handed back.
 fn turn(mut d: Device, memory: &mut [u8], w: u32) -> Device
-    ensures { λ r. ⌜ answers.ran r (now (memory .exit)) ≡ samples d (now (memory .entry)) (w ∷ []) ⌝ }
+    ensures { λ r. ⌜ sample-answers.ran r (now (memory .exit)) ≡ samples d (now (memory .entry)) (w ∷ []) ⌝ }
 {
     let reply = lent::sample(&mut d, memory, 0, w);
     sampled(w, reply, d);
@@ -163,7 +163,7 @@ fn turn(mut d: Device, memory: &mut [u8], w: u32) -> Device
 
 // A write of CR and trace T. The one device is held here, and lent for each sample. The device and the memory after them are the rules' own.
 fn log(cr: u32, memory: &mut [u8]) -> Device
-    ensures { λ r. ⌜ answers.ran r (now (memory .exit)) ≡ samples (calls.write state.fresh 0x00 cr .device) (now (memory .entry)) trace-t ⌝ }
+    ensures { λ r. ⌜ sample-answers.ran r (now (memory .exit)) ≡ samples (register-rules.write state.fresh 0x00 cr .device) (now (memory .entry)) trace-t ⌝ }
 {
     let after = device::write(device::fresh(), Register::CR, cr);
     let outcome = after.outcome;

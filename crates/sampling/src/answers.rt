@@ -3,8 +3,8 @@ ghost use mathlib.Core.Path.{_≡_};
 ghost use Prim.Native.Nat.{_-_, _≤_};
 ghost use lib.ListN.{getD};
 ghost use Rattle.output.specs.Output.{depth};
-ghost use Rattle.sampling.specs.Answers as answers;
-ghost use Rattle.sampling.specs.Parts as parts;
+ghost use Rattle.sampling.specs.Answers as sample-answers;
+ghost use Rattle.sampling.specs.Parts as told;
 use crate::Landing;
 use crate::Packing;
 use output::SLOTS;
@@ -12,7 +12,7 @@ use rules::Device;
 
 // Where a word landed, if the words landed are one more.
 pub fn landing(before: Device, after: Device) -> Landing
-    ensures { λ r. ⌜ answers.landing r ≡ parts.landing-told before after ⌝ }
+    ensures { λ r. ⌜ sample-answers.landing r ≡ told.landing-told before after ⌝ }
 {
     if after.core.output.counts.landed == before.core.output.counts.landed {
         return Landing::Nowhere;
@@ -35,7 +35,7 @@ fn newest(held: u32, slots: [u32; SLOTS]) -> u32
 // What became of the word, if the words completed are one more: it is lost if words were discarded.
 pub fn packing(before: Device, after: Device) -> Packing
     requires { ⌜ after .core .output .held ≤ depth ⌝ }
-    ensures { λ r. ⌜ answers.packing r ≡ parts.packing-told before after ⌝ }
+    ensures { λ r. ⌜ sample-answers.packing r ≡ told.packing-told before after ⌝ }
 {
     if after.core.output.counts.completed == before.core.output.counts.completed {
         return Packing::Nothing;

@@ -3,9 +3,9 @@ ghost use mathlib.Core.Path.{_≡_};
 ghost use Prim.Native.Nat.{_+_, _≤_, _<_, _^_};
 ghost use Rattle.output.specs.Answers.{left};
 ghost use Rattle.output.specs.WellFormed.{Laid};
-ghost use Rattle.rules.specs.Run as rules;
+ghost use Rattle.rules.specs.Run as run-rules;
 ghost use Rattle.capture.specs.Answers as capture-answers;
-ghost use Rattle.sampling.specs.Answers as answers;
+ghost use Rattle.sampling.specs.Answers as sample-answers;
 use capture::Captured;
 use capture::Word;
 use capture::apart;
@@ -24,7 +24,7 @@ use rules::Core;
 // OVR rises, and the frame closes without FRAME; with CM 1, CAPTURE becomes 0.
 fn lose_frame(s: Capture) -> Capture
     requires { ⌜ s .registers .ris ≤ 31 ⌝ }
-    ensures { λ r. ⌜ r ≡ rules.lose-frame s ⌝ }
+    ensures { λ r. ⌜ r ≡ run-rules.lose-frame s ⌝ }
 {
     if control::snapshot(s.registers.cr) {
         return close_frame(clear_capture(raise_ovr(s)));
@@ -36,7 +36,7 @@ fn lose_frame(s: Capture) -> Capture
 fn full_word(v: u32, s: Capture, o: Output, slots: &mut [u32; SLOTS]) -> Core
     requires { ⌜ Laid (left o (now slots)) ⌝ }
     requires { ⌜ (s .registers .ris ≤ 31) × (o .counts .completed + 1 < 2 ^ 32) × (o .counts .discarded + o .held + 1 < 2 ^ 32) ⌝ }
-    ensures { λ r. ⌜ answers.device r (now (slots .exit)) ≡ rules.full-word v s (left o (now (slots .entry))) .device ⌝ }
+    ensures { λ r. ⌜ sample-answers.device r (now (slots .exit)) ≡ run-rules.full-word v s (left o (now (slots .entry))) .device ⌝ }
 {
     let s = apart(s);
     let offered = offer(v, o, slots);
@@ -58,7 +58,7 @@ fn full_word(v: u32, s: Capture, o: Output, slots: &mut [u32; SLOTS]) -> Core
 pub fn complete(c: Captured, o: Output, slots: &mut [u32; SLOTS]) -> Core
     requires { ⌜ Laid (left o (now slots)) ⌝ }
     requires { ⌜ (c .state .registers .ris ≤ 31) × (o .counts .completed + 1 < 2 ^ 32) × (o .counts .discarded + o .held + 1 < 2 ^ 32) ⌝ }
-    ensures { λ r. ⌜ answers.device r (now (slots .exit)) ≡ rules.complete (capture-answers.word (c .word)) (c .state) (left o (now (slots .entry))) .device ⌝ }
+    ensures { λ r. ⌜ sample-answers.device r (now (slots .exit)) ≡ run-rules.complete (capture-answers.word (c .word)) (c .state) (left o (now (slots .entry))) .device ⌝ }
 {
     let s = c.state;
     let word = c.word;

@@ -11,10 +11,10 @@ ghost use Rattle.output.specs.Answers.{left};
 ghost use Rattle.output.specs.Output.{grant as rule-1};
 ghost use Rattle.output.specs.WellFormed.{Laid};
 ghost use Rattle.rules.specs.Capture.{enabled};
-ghost use Rattle.rules.specs.Run as rules;
+ghost use Rattle.rules.specs.Run as run-rules;
 ghost use Rattle.rules.specs.WellFormed.{malformed};
 ghost use Rattle.rules.proofs.WellFormed.{WellFormed};
-ghost use Rattle.sampling.specs.Answers as answers;
+ghost use Rattle.sampling.specs.Answers as sample-answers;
 
 pub mod answers;
 mod full_word;
@@ -58,10 +58,10 @@ fn granted(s: Capture, o: Output, slots: &mut [u32; SLOTS], buffer: &mut [u8], w
 
 // The nine rules in order.
 fn step(d: Core, slots: &mut [u32; SLOTS], buffer: &mut [u8], w: u32) -> Core
-    requires { ⌜ WellFormed (answers.device d (now slots)) ⌝ }
+    requires { ⌜ WellFormed (sample-answers.device d (now slots)) ⌝ }
     requires { ⌜ Laid (left (d .output) (now slots)) ⌝ }
     requires { ⌜ d .output .counts .samples + 1 < 2 ^ 32 ⌝ }
-    ensures { λ r. ⌜ answers.stepped r (now (slots .exit)) (now (buffer .exit)) ≡ rules.steps (answers.device d (now (slots .entry))) (now (buffer .entry)) (w ∷ []) ⌝ }
+    ensures { λ r. ⌜ sample-answers.stepped r (now (slots .exit)) (now (buffer .exit)) ≡ run-rules.steps (sample-answers.device d (now (slots .entry))) (now (buffer .entry)) (w ∷ []) ⌝ }
 {
     let s = capture::apart(d.capture);
     let counted = count_sample(d.output);
@@ -71,10 +71,10 @@ fn step(d: Core, slots: &mut [u32; SLOTS], buffer: &mut [u8], w: u32) -> Core
 
 // The samples in order. Its loop is the one place where `step` is called, so that the compiler makes the rules part of it.
 pub fn steps(d: Core, slots: &mut [u32; SLOTS], buffer: &mut [u8], samples: &[u32]) -> Core
-    requires { ⌜ WellFormed (answers.device d (now slots)) ⌝ }
+    requires { ⌜ WellFormed (sample-answers.device d (now slots)) ⌝ }
     requires { ⌜ Laid (left (d .output) (now slots)) ⌝ }
     requires { ⌜ d .output .counts .samples + length (now samples) < 2 ^ 32 ⌝ }
-    ensures { λ r. ⌜ answers.stepped r (now (slots .exit)) (now (buffer .exit)) ≡ rules.steps (answers.device d (now (slots .entry))) (now (buffer .entry)) (now (samples .entry)) ⌝ }
+    ensures { λ r. ⌜ sample-answers.stepped r (now (slots .exit)) (now (buffer .exit)) ≡ run-rules.steps (sample-answers.device d (now (slots .entry))) (now (buffer .entry)) (now (samples .entry)) ⌝ }
 {
     let mut e = d;
     let mut i = 0;
@@ -90,7 +90,7 @@ pub fn steps(d: Core, slots: &mut [u32; SLOTS], buffer: &mut [u8], samples: &[u3
 pub fn run(d: Device, buffer: &mut [u8], samples: &[u32]) -> Device
     requires { ⌜ malformed d ≡ false ⌝ }
     requires { ⌜ d .core .output .counts .samples + length (now samples) < 2 ^ 32 ⌝ }
-    ensures { λ r. ⌜ answers.ran r (now (buffer .exit)) ≡ rules.steps d (now (buffer .entry)) (now (samples .entry)) ⌝ }
+    ensures { λ r. ⌜ sample-answers.ran r (now (buffer .exit)) ≡ run-rules.steps d (now (buffer .entry)) (now (samples .entry)) ⌝ }
 {
     let mut slots = d.slots;
     let core = steps(d.core, &mut slots, buffer, samples);

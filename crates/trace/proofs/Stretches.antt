@@ -14,7 +14,7 @@ use borrow.Author.Tests.{leb-true, leb-false, le-leb, lt-leb, le-ltb, lt-ltb, eq
 use Rattle.samples.specs.Samples.{bad-sample, any-bad}
 use Rattle.trace.specs.Reading.{field, form-refusal, sample-count, sample-start, sample-at, samples-from}
 use Rattle.trace.specs.Stretches.{good-from, good, Stretch, samples, the-end, refused, stretch, Given, given, give}
-use Rattle.trace.specs.Answers as answers
+use Rattle.trace.specs.Answers as trace-answers
 use Rattle.trace.specs.declared.Stretch.the-variants.{Samples, End, Refused}
 use Rattle.refusals.specs.Table.{number}
 use Rattle.refusals.specs.declared.Refusal.{Refusal}
@@ -176,7 +176,7 @@ module _ (f : List ℕ) (k : ℕ) (array array′ : List ℕ) (form : form-refus
   unfolding give
   ended h = rw form (given-end f k array h)
 
-  pub taken-part : (n : ℕ) → answers.given (Samples n) array′ ≡ give f k array → Part f k array array′ n
+  pub taken-part : (n : ℕ) → trace-answers.given (Samples n) array′ ≡ give f k array → Part f k array array′ n
   taken-part n e = go (decLt k (sample-count f))
     where
       go : Dec (k < sample-count f) → Part f k array array′ n
@@ -195,14 +195,14 @@ module _ (f : List ℕ) (k : ℕ) (array array′ : List ℕ) (form : form-refus
           }
       go (no h) = absurd (clash (let told : samples n ≡ the-end = ap tells (e ∙ ended (omega arith)) in cc))
 
-  pub taken-end : answers.given End array′ ≡ give f k array → sample-count f ≤ k
+  pub taken-end : trace-answers.given End array′ ≡ give f k array → sample-count f ≤ k
   taken-end e = go (decLt k (sample-count f))
     where
       go : Dec (k < sample-count f) → sample-count f ≤ k
       go (yes h) = absurd (clash (let told : the-end ≡ samples _ = ap tells (e ∙ full _ refl h) in cc))
       go (no h) = omega arith
 
-  pub taken-never : (r : Refusal) → answers.given (Refused r) array′ ≡ give f k array → ⊥
+  pub taken-never : (r : Refusal) → trace-answers.given (Refused r) array′ ≡ give f k array → ⊥
   taken-never r e = go (decLt k (sample-count f))
     where
       go : Dec (k < sample-count f) → ⊥

@@ -5,7 +5,7 @@ ghost use lib.ListN.{getD, length, take};
 ghost use Rattle.refusals.specs.Table.{outcome};
 ghost use Rattle.trace.specs.Format as format;
 ghost use Rattle.trace.specs.Reading as reading;
-ghost use Rattle.trace.specs.Answers as answers;
+ghost use Rattle.trace.specs.Answers as trace-answers;
 use crate::Item;
 use crate::Read;
 use crate::Write;
@@ -137,7 +137,7 @@ pub fn samples_start(file: &[u8]) -> usize
 
 // A sample, or refusal 7.
 fn checked(w: u32) -> Item
-    ensures { λ r. ⌜ answers.item r ≡ reading.checked w ⌝ }
+    ensures { λ r. ⌜ trace-answers.item r ≡ reading.checked w ⌝ }
 {
     if bad_sample(w) {
         return Item::Refused(Refusal::SampleBits);
@@ -147,8 +147,8 @@ fn checked(w: u32) -> Item
 
 // The item at a place: first the writes, then the samples, then the end.
 pub fn item_at(file: &[u8], place: usize) -> Item
-    ensures { λ r. ⌜ answers.item r ≡ reading.item (now (file .entry)) place ⌝ }
-    ensures { λ r. ⌜ reading.past place (answers.item r) < 2 ^ 64 ⌝ }
+    ensures { λ r. ⌜ trace-answers.item r ≡ reading.item (now (file .entry)) place ⌝ }
+    ensures { λ r. ⌜ reading.past place (trace-answers.item r) < 2 ^ 64 ⌝ }
 {
     let writes = one(file, 5) as usize;
     if place < writes {
@@ -169,8 +169,8 @@ pub fn item_at(file: &[u8], place: usize) -> Item
 
 // What stands at a place of a file that passes the form checks, or their refusal.
 fn found(file: &[u8], place: usize) -> Item
-    ensures { λ r. ⌜ answers.item r ≡ reading.found (now (file .entry)) place ⌝ }
-    ensures { λ r. ⌜ reading.past place (answers.item r) < 2 ^ 64 ⌝ }
+    ensures { λ r. ⌜ trace-answers.item r ≡ reading.found (now (file .entry)) place ⌝ }
+    ensures { λ r. ⌜ reading.past place (trace-answers.item r) < 2 ^ 64 ⌝ }
 {
     let form = check_form(file);
     match form {
@@ -181,8 +181,8 @@ fn found(file: &[u8], place: usize) -> Item
 
 // A reader's place after an item.
 fn past(place: usize, item: Item) -> usize
-    requires { ⌜ reading.past place (answers.item item) < 2 ^ 64 ⌝ }
-    ensures { λ r. ⌜ r ≡ reading.past place (answers.item item) ⌝ }
+    requires { ⌜ reading.past place (trace-answers.item item) < 2 ^ 64 ⌝ }
+    ensures { λ r. ⌜ r ≡ reading.past place (trace-answers.item item) ⌝ }
 {
     match item {
         Item::Write(_) => place + 1,
@@ -194,7 +194,7 @@ fn past(place: usize, item: Item) -> usize
 
 // One reading: the item, or the refusal, at a place, and the place after it; at a refusal and at the end it stays.
 pub fn read_at(file: &[u8], place: usize) -> Read
-    ensures { λ r. ⌜ answers.read r ≡ reading.read (now (file .entry)) place ⌝ }
+    ensures { λ r. ⌜ trace-answers.read r ≡ reading.read (now (file .entry)) place ⌝ }
 {
     let item = found(file, place);
     let next = past(place, item);

@@ -9,7 +9,7 @@ ghost use Rattle.samples.specs.Samples as samples;
 ghost use Rattle.trace.specs.Format as format;
 ghost use Rattle.trace.specs.Reading as reading;
 ghost use Rattle.trace.specs.Stretches as stretches;
-ghost use Rattle.trace.specs.Answers as answers;
+ghost use Rattle.trace.specs.Answers as trace-answers;
 use crate::Stretch;
 use crate::cursor::SAMPLE_SIZE;
 use crate::cursor::check_form;
@@ -99,7 +99,7 @@ fn at_most_64(n: usize) -> usize
 // A stretch of a file of the right length.
 fn stretch(file: &[u8], k: usize, array: &mut [u32; 64]) -> Stretch
     requires { ⌜ length (now file) ≡ reading.whole (now file) ⌝ }
-    ensures { λ r. ⌜ answers.given r (now (array .exit)) ≡ stretches.given (now (file .entry)) k (now (array .entry)) ⌝ }
+    ensures { λ r. ⌜ trace-answers.given r (now (array .exit)) ≡ stretches.given (now (file .entry)) k (now (array .entry)) ⌝ }
 {
     let count = sample_count(file);
     if count <= k {
@@ -115,7 +115,7 @@ fn stretch(file: &[u8], k: usize, array: &mut [u32; 64]) -> Stretch
 // The samples of a file from number k on, up to 64 and up to the first bad one: how many stand at the front of the array, the end, or a refusal
 // (the form checks, or 7 at sample k itself). The rest of the array stays.
 pub fn stretch_at(file: &[u8], k: usize, array: &mut [u32; 64]) -> Stretch
-    ensures { λ r. ⌜ answers.given r (now (array .exit)) ≡ stretches.give (now (file .entry)) k (now (array .entry)) ⌝ }
+    ensures { λ r. ⌜ trace-answers.given r (now (array .exit)) ≡ stretches.give (now (file .entry)) k (now (array .entry)) ⌝ }
 {
     let form = check_form(file);
     let Outcome::Refused(refusal) = form else {

@@ -1,7 +1,7 @@
 // A reader over a lent file: it holds the file and its place. Each function over it calls a covered one on the file and the place.
 ghost use mathlib.Core.Path.{_≡_};
 ghost use Rattle.trace.specs.Reading as reading;
-ghost use Rattle.trace.specs.Answers as answers;
+ghost use Rattle.trace.specs.Answers as trace-answers;
 use crate::Item;
 use crate::Read;
 use crate::cursor::read_at;
@@ -21,7 +21,7 @@ pub fn open<'a>(file: &'a [u8]) -> Reader<'a>
 
 // The item at the reader's place, or a refusal; the place moves past an item, and stays at a refusal and at the end.
 pub fn next<'s, 'a>(r: &'s mut Reader<'a>) -> Item
-    ensures { λ i. ⌜ (answers.read (record { item = i; place = now (r .exit) .place }) ≡ reading.read (now (now (r .entry) .file)) (now (r .entry) .place)) × (now (r .exit) .file ≡ now (r .entry) .file) ⌝ }
+    ensures { λ i. ⌜ (trace-answers.read (record { item = i; place = now (r .exit) .place }) ≡ reading.read (now (now (r .entry) .file)) (now (r .entry) .place)) × (now (r .exit) .file ≡ now (r .entry) .file) ⌝ }
 {
     let read = read_at(r.file, r.place);
     r.place = read.place;
@@ -37,7 +37,7 @@ pub fn place<'a>(r: Reader<'a>) -> usize
 
 // One reading at any place, through a reader: for callers that have a file and a number. Its parameters are plain, so they need no walk.
 pub fn read_once(file: &[u8], place: usize) -> Read
-    ensures { λ r. ⌜ answers.read r ≡ reading.read (now (file .entry)) place ⌝ }
+    ensures { λ r. ⌜ trace-answers.read r ≡ reading.read (now (file .entry)) place ⌝ }
 {
     let mut reader = Reader { file, place };
     let item = next(&mut reader);

@@ -7,7 +7,7 @@ ghost use lib.Seq.{sets};
 ghost use Rattle.trace.specs.Format as format;
 ghost use Rattle.trace.specs.Reading as reading;
 ghost use Rattle.trace.specs.Writing as writing;
-ghost use Rattle.trace.specs.Answers as answers;
+ghost use Rattle.trace.specs.Answers as trace-answers;
 use crate::Written;
 use crate::cursor::HEADER_LENGTH;
 use crate::cursor::SAMPLE_SIZE;
@@ -96,7 +96,7 @@ pub fn encode(
     samples: &[u32],
     out: &mut [u8],
 ) -> Written
-    ensures { λ r. ⌜ answers.written r (now (out .exit)) ≡ writing.write (writing.given count (now (offsets .entry)) (now (values .entry))) (now (samples .entry)) (now (out .entry)) ⌝ }
+    ensures { λ r. ⌜ trace-answers.written r (now (out .exit)) ≡ writing.write (writing.given count (now (offsets .entry)) (now (values .entry))) (now (samples .entry)) (now (out .entry)) ⌝ }
 {
     if 255 < count {
         return Written::Refused(Refusal::WriteCount);

@@ -40,9 +40,9 @@ use denote.Triple.Statement.{Contract, Triple}
 use denote.Triple.Table.{entered, cited}
 use denote.Triple.Walked.{says, Stays, stay-ref, stay-none, stay-none-slice, gave-slice, walkOf, goes-ref, goes-none, goes-none-slice, goes-gave-slice, Walks, ends-at, walked, walk-meets}
 use denote.Exit.{yes}
-use Rattle.device.specs.Answers as answers
+use Rattle.device.specs.Answers as device-answers
 use Rattle.device.specs.declared.Changed.{Changed}
-use Rattle.rules.specs.Run as rules
+use Rattle.rules.specs.Run as run-rules
 use Rattle.rules.specs.declared.Device.{Device}
 use Rattle.refusals.proofs.Outcome as E
 use Rattle.refusals.proofs.Outcome.Laws as E′
@@ -92,7 +92,7 @@ module _ {M : Type 1} (𝓤 : URA M) (H : Heap 𝓤) (A : Atoms 𝓤) (W : Given
   to = (((κ′, (κ″, tt)), (q′, (q″, tt)), tt, (h, x .1), (val h ∷ [], at .1)), tt)
 
   abbrev Done : Changed → List ℕ → Type 0
-  Done r ys = answers.ran r ys ≡ rules.run h (m .now) n (p .now)
+  Done r ys = device-answers.ran r ys ≡ run-rules.run h (m .now) n (p .now)
 
   -- what the samples own: it is had twice
   abbrev Samples : Fml

@@ -40,9 +40,9 @@ use denote.Triple.Statement.{Contract, Triple}
 use denote.Triple.Table.{entered, cited}
 use denote.Triple.Walked.{says, Stays, stay-ref, stay-none, gave-slice, walkOf, goes-ref, goes-none, goes-gave-slice, Walks, ends-at, walked, walk-meets}
 use denote.Exit.{yes}
-use Rattle.device.specs.Answers as answers
+use Rattle.device.specs.Answers as device-answers
 use Rattle.device.specs.declared.Sampled.{Sampled}
-use Rattle.rules.specs.Run as rules
+use Rattle.rules.specs.Run as run-rules
 use Rattle.rules.specs.declared.Device.{Device}
 use Rattle.device.proofs.Reply as E
 use Rattle.device.proofs.Reply.Laws as E′
@@ -88,7 +88,7 @@ module _ {M : Type 1} (𝓤 : URA M) (H : Heap 𝓤) (A : Atoms 𝓤) (W : Given
   to = (((κ′, tt), (q′, tt), tt, (h, x .1), (val h ∷ [], at .1)), tt)
 
   abbrev Done : Sampled → List ℕ → Type 0
-  Done r ys = answers.sampled r ys ≡ rules.sample h (m .now) n w
+  Done r ys = device-answers.sampled r ys ≡ run-rules.sample h (m .now) n w
 
   goes : IsDevice h → ent 𝓤 (⋆ 𝓤 H A ((‵ (flft κ′ q′) ⊛ ‵ ftrue) ∷ ‵ (owns (MutSlice (named 1) κ′ u8 ∷ usize ∷ u32 ∷ []) (x .1) (at .1)) ∷ [])) (Callee 𝓤 H A at-mem run .pre to)
   goes was =

@@ -38,9 +38,9 @@ use denote.Triple.Statement.{Contract, Triple}
 use denote.Triple.Table.{entered, cited}
 use denote.Triple.Walked.{says, Stays, stay-ref, stay-none, walkOf, goes-ref, goes-none, Walks, ends-at, walked, walk-meets}
 use denote.Exit.{yes}
-use Rattle.device.specs.Answers as answers
+use Rattle.device.specs.Answers as device-answers
 use Rattle.device.specs.declared.Changed.{Changed}
-use Rattle.rules.specs.RegisterCalls as calls
+use Rattle.rules.specs.RegisterCalls as register-rules
 use Rattle.rules.specs.declared.Device.{Device}
 use Rattle.refusals.proofs.Outcome as E
 use Rattle.refusals.proofs.Outcome.Laws as E′
@@ -83,7 +83,7 @@ module _ {M : Type 1} (𝓤 : URA M) (H : Heap 𝓤) (A : Atoms 𝓤) (W : Given
   to = ((tt, tt, tt, (h, x .1), (val h ∷ [], at .1)), tt)
 
   abbrev Done : Changed → Type 0
-  Done r = answers.changed r ≡ calls.write h n v
+  Done r = device-answers.changed r ≡ register-rules.write h n v
 
   goes : IsDevice h → ent 𝓤 (⋆ 𝓤 H A (‵ ftrue ∷ ‵ (owns (u32 ∷ u32 ∷ []) (x .1) (at .1)) ∷ [])) (Callee 𝓤 H A at-mem run .pre to)
   goes was =

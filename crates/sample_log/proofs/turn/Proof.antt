@@ -40,10 +40,10 @@ use denote.Triple.Statement.{Contract, Triple}
 use denote.Triple.Table.{entered, cited}
 use denote.Triple.Walked.{says, Stays, stay-dropped, gave-slice, walkOf, goes-dropped, goes-gave-slice, Walks, ends-at, walked, walk-meets}
 use denote.Exit.{yes}
-use Rattle.device.specs.Answers as answers
+use Rattle.device.specs.Answers as device-answers
 use Rattle.sampling.specs.Answers.{ran}
 use Rattle.device.specs.declared.Reply.{Reply}
-use Rattle.rules.specs.Run as rules
+use Rattle.rules.specs.Run as run-rules
 use Rattle.rules.specs.declared.Device.{Device}
 use Rattle.sample_log.specs.Samples.{samples}
 use Rattle.rules.proofs.Device as T
@@ -110,7 +110,7 @@ module _ {M : Type 1} (𝓤 : URA M) (H : Heap 𝓤) (A : Atoms 𝓤) (W : Given
       move ! (1 ∷ 0 ∷ []) $ join ! $ frame ! $ done !
 
   abbrev Took : Reply → Device → List ℕ → Type 0
-  Took r e ys = answers.sampled (record { device = e; reply = r }) ys ≡ rules.sample d (m .now) 0 w
+  Took r e ys = device-answers.sampled (record { device = e; reply = r }) ys ≡ run-rules.sample d (m .now) 0 w
 
   -- and the same for `sampled`, which prints
   abbrev to-sampled : Reply → Device → Sampled 𝓤 H A at-mem run .Ghost
@@ -123,7 +123,7 @@ module _ {M : Type 1} (𝓤 : URA M) (H : Heap 𝓤) (A : Atoms 𝓤) (W : Given
 
   one-sample : (r : Reply) (e : Device) (ys : List ℕ) → Took r e ys → ran e ys ≡ samples d (m .now) (w ∷ [])
   unfolding samples
-  one-sample r e ys took = ap (λ (a : rules.SampleResult). ran (a .device) (a .memory)) took
+  one-sample r e ys took = ap (λ (a : run-rules.SampleResult). ran (a .device) (a .memory)) took
 
   exits : (e : Device) (ys : List ℕ) → ran e ys ≡ samples d (m .now) (w ∷ []) → IsDevice e → length ys ≡ length (m .now)
       → ent 𝓤 (⋆ 𝓤 H A ((‵ (flft κ q) ⊛ ‵ ftrue) ∷ ‵ (finally u8 (m .name) ys) ∷ [])) (Post (val e))

@@ -11,9 +11,9 @@ add-result-2 : tie.Need-add-result-2
 add-result-2 c =
     omega (
       arith,
-      c .before .before .before .before .before .when .ensures,
-      c .before .before .when2 .ensures,
-      c .when3 .ensures,
+      c .before .before .before .before .before .number-if .ensures,
+      c .before .before .number-if2 .ensures,
+      c .number-if3 .ensures,
       cond-le (c .before .before .before .before .before .before .blanks .result) 1,
       cond-le (c .before .before .before .blanks2 .result) 2,
       cond-le (ltb 0 (c .before .before .before .before .before .before .before .before .args .d .core .output .held)) 4,
@@ -25,11 +25,11 @@ returns c =
     rw (
       ← c .before .before .before .before .before .before .before .hspol .ensures,
       ← c .before .before .before .before .before .before .blanks .ensures,
-      ← c .before .before .before .before .before .when .ensures,
+      ← c .before .before .before .before .before .number-if .ensures,
       ← c .before .before .before .before .vspol .ensures,
       ← c .before .before .before .blanks2 .ensures,
-      ← c .before .before .when2 .ensures,
-      ← c .when3 .ensures,
+      ← c .before .before .number-if2 .ensures,
+      ← c .number-if3 .ensures,
     )
 
 pub status-spec : {M : Type 1} → statement M

@@ -2,7 +2,7 @@
 use borrow.Author.Needs.{needs}
 use borrow.Author.Tests.{le-ltb, lt-ltb}
 use native.Mathlib.Omega.{arith}
-use Rattle.trace.specs.Answers as answers
+use Rattle.trace.specs.Answers as trace-answers
 use Rattle.trace.specs.Reading.{item, past, sample-at, write-at}
 use Rattle.trace.proofs.Walk.{past-next}
 use Rattle.trace.proofs.cursor.item_at.Statement.{statement}
@@ -31,7 +31,7 @@ returns-2 c = (
     ← c .before .three .ensures .0,
     ← c .checked .ensures,
   ),
-  omega (arith, past-next (c .before .before .before .before .before .before .before .args .place) (answers.item (c .checked .result)), c .before .before .if2 .taken),
+  omega (arith, past-next (c .before .before .before .before .before .before .before .args .place) (trace-answers.item (c .checked .result)), c .before .before .if2 .taken),
 )
 
 returns-3 : tie.Need-returns-3

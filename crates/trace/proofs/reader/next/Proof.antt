@@ -40,7 +40,7 @@ use denote.Triple.Spec.{Meets, tripleOf}
 use denote.Triple.Statement.{Contract, Triple}
 use denote.Triple.Table.{entered, cited}
 use denote.Triple.Walked.{says, Stays, stay-ref, walkOf, goes-ref, Walks, ends-at, walked, walk-meets}
-use Rattle.trace.specs.Answers as answers
+use Rattle.trace.specs.Answers as trace-answers
 use Rattle.trace.specs.Reading as reading
 use Rattle.trace.specs.declared.Read.{Read}
 use Rattle.trace.specs.declared.reader.Reader.{Reader}
@@ -87,7 +87,7 @@ module _ {M : Type 1} (𝓤 : URA M) (H : Heap 𝓤) (A : Atoms 𝓤) (W : Given
   h′ r = record { file = h .file; place = r .place }
 
   abbrev Found : Read → Type 0
-  Found r = answers.read r ≡ reading.read (now (h .file)) (h .place)
+  Found r = trace-answers.read r ≡ reading.read (now (h .file)) (h .place)
 
   abbrev Post : Val → SProp 𝓤
   Post = walkOf 𝓤 H A next.ended stayed (next.clauses 𝓤 H A at-mem run) .post (((κ, (κ′, tt)), (q, (q′, tt)), bounds, x, at), tt)

@@ -43,7 +43,7 @@ use denote.Triple.Statement.{Contract, Triple}
 use denote.Triple.Table.{entered, cited}
 use denote.Triple.Walked.{says, Stays, stay-none, stay-none-slice, walkOf, goes-none, goes-none-slice, Walks, ends-at, walked, walk-meets}
 use denote.Exit.{yes}
-use Rattle.trace.specs.Answers as answers
+use Rattle.trace.specs.Answers as trace-answers
 use Rattle.trace.specs.Reading as reading
 use Rattle.trace.specs.declared.Item.{Item}
 use Rattle.trace.specs.declared.Read.{Read}
@@ -124,7 +124,7 @@ module _ {M : Type 1} (𝓤 : URA M) (H : Heap 𝓤) (A : Atoms 𝓤) (W : Given
   item i = EL.val I.the-type I′.the-laws i
 
   abbrev Found : Item → Reader → Type 0
-  Found i z = (answers.read (r i z) ≡ reading.read (now s) n) × (z .file ≡ s)
+  Found i z = (trace-answers.read (r i z) ≡ reading.read (now s) n) × (z .file ≡ s)
 
   exits : (i : Item) (z : Reader) → Found i z → Is S.the-row (r i z) (found i z ∷ []) → ent 𝓤 (⋆ 𝓤 H A (‵ (flft κ q) ∷ ‵ (File κ s) ∷ [])) (Post (found i z))
   exits i z e is =
