@@ -7,22 +7,14 @@ use Rattle.rules.specs.Run.{RunResult, SampleResult}
 use Rattle.device.specs.Answers as device-answers
 use Rattle.device.specs.declared.Changed.{Changed}
 use Rattle.device.specs.declared.Sampled.{Sampled}
-use Rattle.files.specs.Answers as file-answers
-use Rattle.files.specs.File.{FileResult}
-use Rattle.files.specs.declared.Ran.{Ran}
 use Rattle.trace.specs.Answers as trace-answers
 use Rattle.trace.specs.Writing.{WriteResult}
 use Rattle.trace.specs.declared.Written.{Written as Encoding}
-use Rattle.dcmi.specs.Calls.{Called, called, changed, run-called, ran, file-stored, file-left, SampleStored, sample-called, sample-stored, sample-left, Got, gave, got, encoded}
+use Rattle.dcmi.specs.Calls.{Called, called, changed, run-called, ran, SampleStored, sample-called, sample-stored, sample-left, Got, gave, got, encoded}
 
 pub run-stored : {number : ℕ} {image′ : List ℕ} {r : RunResult} (image memory′ : List ℕ) (w : Changed) → called number image′ ≡ changed image (device-answers.changed w) → device-answers.ran w memory′ ≡ r
     → run-called number image′ memory′ ≡ ran image r
-run-stored image memory′ w e f = ap (λ (x : Called). file-left x memory′) e ∙ ap (λ (x : RunResult). ran image x) f
-
-pub file-ran : {number : ℕ} {image′ : List ℕ} {r : FileResult} (image memory′ : List ℕ) (w : Ran) → called number image′ ≡ file-stored image (file-answers.answer (w .outcome) (w .device)) → file-answers.ran w memory′ ≡ r
-    → run-called number image′ memory′ ≡ file-left (file-stored image (r .answer)) (r .memory)
-file-ran image memory′ w e f =
-    ap (λ (x : Called). file-left x memory′) e ∙ ap (λ (x : FileResult). file-left (file-stored image (x .answer)) (x .memory)) f
+run-stored image memory′ w e f = ap (λ (x : Called). run-called (x .number) (x .image) memory′) e ∙ ap (λ (x : RunResult). ran image x) f
 
 pub sampled : {number : ℕ} {image′ answer′ : List ℕ} {r : SampleResult} (image old memory′ : List ℕ) (s : Sampled) → sample-called number image′ answer′ ≡ sample-stored image old (device-answers.reply (s .reply)) (s .device)
     → device-answers.sampled s memory′ ≡ r → sample-left (sample-called number image′ answer′) memory′ ≡ sample-left (sample-stored image old (r .answer) (r .device)) (r .memory)

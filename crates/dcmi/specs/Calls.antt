@@ -78,18 +78,9 @@ unfoldable pub run : List ℕ → List ℕ → ℕ → List ℕ → RunCalled
 run image memory start samples =
     cond (encodes image) (ran image (run-rules.run (device-of image) memory start samples)) (record { number = 1; image = image; memory = memory })
 
--- A file needs no device: its image is the one that the file leaves.
-abbrev pub file-stored : List ℕ → Answer Device → Called
-file-stored image (refused n) = record { number = n; image = image }
-file-stored image (answered d) = record { number = 0; image = image-of d }
-
-abbrev pub file-left : Called → List ℕ → RunCalled
-file-left c memory = record { number = c .number; image = c .image; memory = memory }
-
+-- A file needs no device: its image is the one that the file leaves, or, refused, as it was.
 unfoldable pub run-file : List ℕ → List ℕ → List ℕ → ℕ → RunCalled
-run-file image file memory start =
-    let r = file-rules.run-file file memory start in
-    file-left (file-stored image (r .answer)) (r .memory)
+run-file image file memory start = ran image (file-rules.run-file file memory start)
 
 -- A sample's two answers as four words: landed, byte, packed, value.
 abbrev pub landed-word : Option ℕ → ℕ

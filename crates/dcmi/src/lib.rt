@@ -3,7 +3,6 @@
 // equation with a definition of specs/; refused, all of them are as they were.
 ghost use mathlib.Core.Path.{_≡_};
 ghost use Rattle.device.specs.Answers as device-answers;
-ghost use Rattle.files.specs.Answers as file-answers;
 ghost use Rattle.sampling.specs.Answers as sample-answers;
 ghost use Rattle.trace.specs.Answers as trace-answers;
 ghost use Rattle.trace.specs.Writing as writing;
@@ -16,7 +15,6 @@ use device::Sampled;
 use device_words::device_of;
 use device_words::encodes;
 use device_words::image_of;
-use files::Ran;
 use refusals::Outcome;
 use sampling::Landing;
 use sampling::Packing;
@@ -152,22 +150,6 @@ pub extern "C" fn dcmi_run_slices(
     1
 }
 
-fn store_ran(image: &mut [u32; 26], after: Ran) -> u32
-    ensures { λ r. ⌜ call-rules.called r (now (image .exit)) ≡ call-rules.file-stored (now (image .entry)) (file-answers.answer (after .outcome) (after .device)) ⌝ }
-{
-    let outcome = after.outcome;
-    match outcome {
-        Outcome::Accepted => {
-            let d = after.device;
-            *image = image_of(d);
-            return 0;
-        }
-        Outcome::Refused(refusal) => {
-            return refusal.number();
-        }
-    }
-}
-
 // A trace file on a fresh device, over the memory from the start byte on.
 #[no_mangle]
 pub extern "C" fn dcmi_run_file_slices(
@@ -179,7 +161,7 @@ pub extern "C" fn dcmi_run_file_slices(
     ensures { λ r. ⌜ call-rules.run-called r (now (image .exit)) (now (memory .exit)) ≡ call-rules.run-file (now (image .entry)) (now (file .entry)) (now (memory .entry)) start ⌝ }
 {
     let after = files::run_file(file, memory, start);
-    store_ran(image, after)
+    store(image, after)
 }
 
 fn landed_word(landing: Landing) -> u64

@@ -1,16 +1,19 @@
 // Running a trace file on a fresh device, over lent bytes and memory: the form checks, the register writes, then the samples as one run, taken
 // from the file by the trace crate, writes one at a time and samples by stretches. Refused, the memory is as it was lent.
 ghost use mathlib.Core.Bool.{false};
+ghost use mathlib.Core.List.{List};
 ghost use mathlib.Core.Path.{_≡_};
+ghost use Prim.Native.Nat.{ℕ};
+ghost use Rattle.refusals.specs.Table.{number, outcome};
 ghost use Rattle.rules.specs.State as state;
 ghost use Rattle.rules.specs.RegisterCalls as register-rules;
 ghost use Rattle.rules.specs.Run as run-rules;
 ghost use Rattle.rules.specs.WellFormed.{malformed};
 ghost use Rattle.rules.proofs.WellFormed.{WellFormed};
 ghost use Rattle.trace.specs.Reading as reading;
+ghost use Rattle.sampling.specs.Answers as sample-answers;
 ghost use Rattle.device.specs.Answers as device-answers;
 ghost use Rattle.files.specs.File as file-rules;
-ghost use Rattle.files.specs.Answers as file-answers;
 use device::Changed;
 use refusals::Outcome;
 use refusals::Refusal;
@@ -25,12 +28,6 @@ use trace::item_at;
 use trace::stretch_at;
 use trace::write_count;
 
-// The device after a file, with the answer. Refused, the device says nothing.
-pub struct Ran {
-    pub device: Device,
-    pub outcome: Outcome,
-}
-
 // One write of a file.
 fn write_item(d: Device, w: Write) -> Changed
     ensures { λ r. ⌜ device-answers.changed r ≡ register-rules.write d (w .offset) (w .value) ⌝ }
@@ -38,7 +35,17 @@ fn write_item(d: Device, w: Write) -> Changed
     device::write(d, w.offset as u32, w.value)
 }
 
-// The writes of a file on a fresh device, up to the first that is refused. Before the last of them no sample, end or refusal is read.
+// A refused file: the device is a fresh one.
+fn refused(refusal: Refusal) -> Changed
+    ensures { λ r. ⌜ ((memory : List ℕ) → device-answers.ran r memory ≡ file-rules.refused (number refusal) memory) ⌝ }
+{
+    Changed {
+        device: device::fresh(),
+        outcome: Outcome::Refused(refusal),
+    }
+}
+
+// The writes of a file on a fresh device, up to the first that is refused. Before the last of them no sample, end or refusal is read, as the proof says.
 fn set_up(file: &[u8]) -> Changed
     ensures { λ r. ⌜ device-answers.changed r ≡ file-rules.set-up state.fresh (reading.writes-of (now (file .entry))) ⌝ }
     ensures { λ r. ⌜ (malformed (r .device) ≡ false) × (r .device .core .output .counts .samples ≡ 0) ⌝ }
@@ -50,6 +57,7 @@ fn set_up(file: &[u8]) -> Changed
         let item = item_at(file, place);
         let Item::Write(w) = item else {
             let Item::Refused(refusal) = item else {
+                // a sample or the end: no write is left
                 return Changed {
                     device: d,
                     outcome: Outcome::Accepted,
@@ -74,12 +82,13 @@ fn set_up(file: &[u8]) -> Changed
     }
 }
 
-// The samples of an accepted file in order, stretch by stretch: none is refused.
-fn steps(d: Device, buffer: &mut [u8], file: &[u8]) -> Ran
+// The samples of an accepted file in order, stretch by stretch: none is refused, as the proof says.
+fn steps(d: Device, buffer: &mut [u8], file: &[u8]) -> Changed
     requires { ⌜ WellFormed d ⌝ }
     requires { ⌜ d .core .output .counts .samples ≡ 0 ⌝ }
     requires { ⌜ reading.file-refusal (now file) ≡ 0 ⌝ }
-    ensures { λ r. ⌜ file-answers.ran r (now (buffer .exit)) ≡ file-rules.stepped (run-rules.steps d (now (buffer .entry)) (reading.samples-of (now (file .entry)))) ⌝ }
+    ensures { λ r. ⌜ outcome (r .outcome) ≡ 0 ⌝ }
+    ensures { λ r. ⌜ sample-answers.ran (r .device) (now (buffer .exit)) ≡ run-rules.steps d (now (buffer .entry)) (reading.samples-of (now (file .entry))) ⌝ }
 {
     let mut e = d;
     let mut done = 0;
@@ -88,12 +97,13 @@ fn steps(d: Device, buffer: &mut [u8], file: &[u8]) -> Ran
         let stretch = stretch_at(file, done, &mut samples);
         let Stretch::Samples(n) = stretch else {
             let Stretch::Refused(refusal) = stretch else {
-                return Ran {
+                // the end
+                return Changed {
                     device: e,
                     outcome: Outcome::Accepted,
                 };
             };
-            return Ran {
+            return Changed {
                 device: e,
                 outcome: Outcome::Refused(refusal),
             };
@@ -103,45 +113,45 @@ fn steps(d: Device, buffer: &mut [u8], file: &[u8]) -> Ran
     }
 }
 
-// The samples of a file as one run on a device that has counted none: refusals 9 and 7.
-fn run_samples(d: Device, file: &[u8], memory: &mut [u8], start: usize) -> Ran
+// The samples of a file as one run on a device that has counted none: refusals 9 and 7. Refused, the device is a fresh one.
+fn run_samples(d: Device, file: &[u8], memory: &mut [u8], start: usize) -> Changed
     requires { ⌜ malformed d ≡ false ⌝ }
     requires { ⌜ d .core .output .counts .samples ≡ 0 ⌝ }
     requires { ⌜ reading.form-refusal (now file) ≡ 0 ⌝ }
-    ensures { λ r. ⌜ file-answers.ran r (now (memory .exit)) ≡ file-rules.of-run (run-rules.run d (now (memory .entry)) start (reading.samples-of (now (file .entry)))) ⌝ }
+    ensures { λ r. ⌜ device-answers.ran r (now (memory .exit)) ≡ file-rules.or-fresh (run-rules.run d (now (memory .entry)) start (reading.samples-of (now (file .entry)))) ⌝ }
 {
     if memory.len() < start {
-        return Ran {
-            device: d,
-            outcome: Outcome::Refused(Refusal::StartBeyond),
-        };
+        return refused(Refusal::StartBeyond);
     }
     let checked = check_file(file);
-    let Outcome::Accepted = checked else {
-        return Ran {
-            device: d,
-            outcome: checked,
-        };
+    let Outcome::Refused(refusal) = checked else {
+        return steps(d, &mut memory[start..], file);
     };
-    steps(d, &mut memory[start..], file)
+    refused(refusal)
 }
 
-// A trace file on a fresh device, over the memory from the start byte on. Refusals 13, 10, 11, 12, 13, the first refused write's number, 9, 7, 8.
-pub fn run_file(file: &[u8], memory: &mut [u8], start: usize) -> Ran
-    ensures { λ r. ⌜ file-answers.ran r (now (memory .exit)) ≡ file-rules.run-file (now (file .entry)) (now (memory .entry)) start ⌝ }
+// The writes of a file of the right form, then its samples.
+fn run_content(file: &[u8], memory: &mut [u8], start: usize) -> Changed
+    requires { ⌜ reading.form-refusal (now file) ≡ 0 ⌝ }
+    ensures { λ r. ⌜ device-answers.ran r (now (memory .exit)) ≡ file-rules.run-content (reading.writes-of (now (file .entry))) (reading.samples-of (now (file .entry))) (now (memory .entry)) start ⌝ }
 {
-    let form = check_form(file);
-    let Outcome::Accepted = form else {
-        return Ran {
-            device: device::fresh(),
-            outcome: form,
-        };
-    };
     let ready = set_up(file);
     let d = ready.device;
     let outcome = ready.outcome;
-    let Outcome::Accepted = outcome else {
-        return Ran { device: d, outcome };
+    let Outcome::Refused(refusal) = outcome else {
+        return run_samples(d, file, memory, start);
     };
-    run_samples(d, file, memory, start)
+    refused(refusal)
+}
+
+// A trace file on a fresh device, over the memory from the start byte on. Refusals 13, 10, 11, 12, 13, the first refused write's number, 9, 7, 8; refused, the
+// device is a fresh one.
+pub fn run_file(file: &[u8], memory: &mut [u8], start: usize) -> Changed
+    ensures { λ r. ⌜ device-answers.ran r (now (memory .exit)) ≡ file-rules.run-file (now (file .entry)) (now (memory .entry)) start ⌝ }
+{
+    let form = check_form(file);
+    let Outcome::Refused(refusal) = form else {
+        return run_content(file, memory, start);
+    };
+    refused(refusal)
 }

@@ -122,7 +122,7 @@ unfoldable pub oldest-lands : List ℕ → OutputState → List ℕ → Granted
 oldest-lands [] x buffer = no-landing x buffer
 oldest-lands (v ∷ vs) x buffer = cond (room (place-of v (x .output)) buffer) (lands v vs (x .output) buffer) (no-landing x buffer)
 
--- Rule 1 (004, 32.3.10): the bus grants and ENABLE is 1. CAPTURE plays no part.
+-- Rule 1 (004, 32.3.4): the bus grants and ENABLE is 1. CAPTURE plays no part.
 unfoldable pub grant : Bool → Bool → OutputState → List ℕ → Granted
 grant granted enabled x buffer = cond (granted && enabled) (oldest-lands (contents x) x buffer) (no-landing x buffer)
 

@@ -14,7 +14,7 @@ Numbered (t ∷ ts) = (0 < t .number) × Numbered ts
 
 abbrev pub Passed : List Test → Type 0
 Passed [] = Unit {0}
-Passed (t ∷ ts) = (t .fails ≡ false) × Passed ts
+Passed (t ∷ ts) = (t .holds ≡ false) × Passed ts
 
 passed : (b : Bool) (n m : ℕ) → 0 < n → cond b n m ≡ 0 → (b ≡ false) × (m ≡ 0)
 passed true n m pos e = absurd (omega arith)
@@ -22,4 +22,4 @@ passed false n m pos e = (refl, e)
 
 pub accepted : (ts : List Test) → Numbered ts → first ts ≡ 0 → Passed ts
 accepted [] n e = tt
-accepted (t ∷ ts) n e = let (h, rest) = passed (t .fails) (t .number) (first ts) (n .0) e in (h, accepted ts (n .1) rest)
+accepted (t ∷ ts) n e = let (h, rest) = passed (t .holds) (t .number) (first ts) (n .0) e in (h, accepted ts (n .1) rest)

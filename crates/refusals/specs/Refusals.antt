@@ -4,19 +4,19 @@ use mathlib.Core.List.{List, [], _∷_}
 use Prim.Native.Nat.{ℕ}
 use lib.Dec.{eqb}
 
--- A refusal number and when it is given.
+-- A refusal number and the test for it: a test that holds is a refusal.
 pub record Test : Type 0 where
-  pub fails : Bool
+  pub holds : Bool
   pub number : ℕ
 
 abbrev pub _⇒_ : Bool → ℕ → Test
-fails ⇒ number = record { fails = fails; number = number }
+holds ⇒ number = record { holds = holds; number = number }
 
 infix 68 _⇒_
--- The number of the first test that fails, from the top; 0 where none does: the call is accepted.
+-- The number of the first test that holds, from the top; 0 where none does: the call is accepted.
 abbrev pub first : List Test → ℕ
 first [] = 0
-first (t ∷ ts) = cond (t .fails) (t .number) (first ts)
+first (t ∷ ts) = cond (t .holds) (t .number) (first ts)
 
 -- A call that answers a value: a refusal returns its number and no value.
 pub data Answer (A : Type 0) : Type 0 where

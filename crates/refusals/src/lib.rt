@@ -1,5 +1,5 @@
 // The refusal table: why a call is refused, with the paper's number of each (specs/Table), and the answer of a call that gives no value. How a
-// call's refusal is found, its tests in order and the number of the first that fails, is specs/Refusals.
+// call's refusal is found, its tests in order and the number of the first that holds, is specs/Refusals.
 ghost use mathlib.Core.Path.{_≡_};
 ghost use Rattle.refusals.specs.Table as table;
 

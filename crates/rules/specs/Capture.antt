@@ -93,7 +93,7 @@ start-of (Open taken f) now s = s
 unfoldable pub frame-start : Capture → Syncs → Capture
 frame-start s now = start-of (s .frame) now s
 
--- Rule 6: a line begins if HSYNC blanked at the last working edge or no line has begun in this frame. Kept are lines begun and pixels of the last.
+-- Rule 6 (004, 32.3.5): a line begins if HSYNC blanked at the last working edge or no line has begun in this frame. Kept are lines begun and pixels of the last.
 unfoldable pub line-begins : Capture → Scan → Bool
 line-begins s f = s .syncs .hsync || eqb (f .lines) 0
 
@@ -138,7 +138,7 @@ unfoldable pub pixel-in : Frame → Capture → Syncs → ℕ → Captured
 pixel-in Closed s now x = no-word s
 pixel-in (Open taken f) s now x = cond (any-blanks now) (no-word s) (pixel s taken f x)
 
--- Rule 6: with both syncs not blanking in an open frame, the edge carries a pixel.
+-- Rule 6 (004, 32.3.6): with both syncs not blanking in an open frame, the edge carries a pixel.
 unfoldable pub pixel-edge : Capture → Syncs → ℕ → Captured
 pixel-edge s now x = pixel-in (s .frame) s now x
 

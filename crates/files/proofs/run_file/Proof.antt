@@ -3,39 +3,30 @@ use borrow.Author.Needs.{needs}
 use mathlib.Core.Path.{sym, ap, _∙_}
 use Rattle.refusals.proofs.Numbered.{never-zero}
 use Rattle.refusals.specs.Table.{outcome}
-use Rattle.files.specs.File.{run-file, run-content}
+use Rattle.files.specs.File.{run-file}
 use Rattle.files.proofs.run_file.Statement.{statement}
 use Rattle.files.proofs.run_file.Tie as tie
 
-returns : tie.Need-returns
-unfolding run-file run-content
-returns c = rw (← c .before .before .before .check-form .ensures, c .before .enum-told2 .given .1, never-zero (c .before .enum-told2 .given .0 .0))
+run-content-requires : tie.Need-run-content-requires
+run-content-requires c κs = sym (c .before .before .before .check-form .ensures) ∙ ap outcome (c .before .enum-told .given .1)
 
-returns-2 : tie.Need-returns-2
-unfolding run-file run-content
-returns-2 c =
+returns : tie.Need-returns
+unfolding run-file
+returns c =
     rw (
+      c .before .before .run-content .ensures,
       ← c .before .before .before .before .before .before .check-form .ensures,
       c .before .before .before .before .enum-told .given .1,
-      ← c .before .before .before .set-up .ensures .0,
-      c .enum-told4 .given .1,
-      never-zero (c .enum-told4 .given .0 .0),
-      never-zero (c .enum-told4 .given .0 .0),
     )
 
-run-samples-requires : tie.Need-run-samples-requires
-run-samples-requires c κs =
-    (c .before .before .before .before .set-up .ensures .1 .0, (c .before .before .before .before .set-up .ensures .1 .1, sym (c .before .before .before .before .before .before .before .check-form .ensures) ∙ ap outcome (c .before .before .before .before .before .enum-told .given .1)))
-
-returns-3 : tie.Need-returns-3
-unfolding run-file run-content
-returns-3 c =
+returns-2 : tie.Need-returns-2
+unfolding run-file
+returns-2 c =
     rw (
-      c .before .before .run-samples .ensures,
-      ← c .before .before .before .before .before .before .before .before .before .before .check-form .ensures,
-      c .before .before .before .before .before .before .before .before .enum-told .given .1,
-      ← c .before .before .before .before .before .before .before .set-up .ensures .0,
-      c .before .before .before .before .enum-told3 .given .1,
+      c .refused .ensures,
+      ← c .before .before .before .before .check-form .ensures,
+      c .before .before .form .given .1,
+      never-zero (c .before .before .form .given .0 .0),
     )
 
 pub run-file-spec : {M : Type 1} → statement M
@@ -45,12 +36,8 @@ run-file-spec =
     (λ c κs. search needs)
     (λ c. search needs)
     (λ c. search needs)
-    (λ c κs. search needs)
+    run-content-requires
+    (λ c. search needs)
     returns
     (λ c κs. search needs)
-    (λ c. search needs)
-    (λ c. search needs)
-    returns-2
-    run-samples-requires
-    (λ c. search needs)
-    returns-3)
+    returns-2)

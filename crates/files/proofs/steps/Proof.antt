@@ -1,10 +1,9 @@
 -- `files::steps` meets its contract: the samples left lead to the same end.
 use Prim.Native.Nat.{_-_}
 use borrow.Author.Needs.{needs}
-use mathlib.Core.Path.{refl, sym, ap}
+use mathlib.Core.Path.{refl, sym}
 use native.Mathlib.Omega.{arith}
 use lib.Seq.{length-take-le}
-use Rattle.files.specs.File.{stepped}
 use Rattle.trace.specs.Reading as reading
 use Rattle.files.proofs.Items.{the-end}
 use Rattle.files.proofs.Samples.{Stepping, stepping-start, stepping-taken, stepping-few, stepping-room, stepping-asks, stepping-over, stepping-never, stepping-part, stepping-on, stepping-end}
@@ -23,7 +22,7 @@ loop-holds c = stepping-start _ _ _ _ (c .before .before .pre .0) (c .before .be
 returns : tie.Need-returns Inv-loop μ-loop
 returns c =
     let s = c .before .before .before .before .loop .inv in
-    sym (ap stepped (stepping-end s (stepping-over s (c .before .before .before .before .before .before .before .pre .1 .1) (c .before .before .stretch-at .ensures) (the-end (c .before .before .stretch-at .result) (c .before .match .keys2) (c .match2 .keys2)))))
+    (refl, sym (stepping-end s (stepping-over s (c .before .before .before .before .before .before .before .pre .1 .1) (c .before .before .stretch-at .ensures) (the-end (c .before .before .stretch-at .result) (c .before .match .keys2) (c .match2 .keys2)))))
 
 returns-2 : tie.Need-returns-2 Inv-loop μ-loop
 returns-2 c = absurd (stepping-never (c .before .before .before .before .before .before .loop .inv) (c .before .before .before .before .before .before .before .before .before .pre .1 .1) (c .before .before .before .before .stretch-at .ensures) (c .before .stretch2 .given .1))
