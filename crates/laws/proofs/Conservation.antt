@@ -18,14 +18,15 @@ call-keeps d a-rearming e = rearm-keeps d e
 call-keeps d (a-run memory start samples) e = run-keeps d memory start samples e
 call-keeps d (a-sample memory start w) e = sample-keeps d memory start w e
 
-calls-keep : (d : Device) (cs : List Call) → malformed d ≡ false → malformed (after-all d cs) ≡ false
+-- What every call keeps, every list of calls keeps.
+pub calls-keep : (P : Device → Type 0) → ((d : Device) (c : Call) → P d → P (after d c)) → (d : Device) (cs : List Call) → P d → P (after-all d cs)
 unfolding after-all
-calls-keep d [] e = e
-calls-keep d (c ∷ cs) e = calls-keep (after d c) cs (call-keeps d c e)
+calls-keep P keeps d [] h = h
+calls-keep P keeps d (c ∷ cs) h = calls-keep P keeps (after d c) cs (keeps d c h)
 
 -- No accepted call from reset makes a malformed device.
 pub never-malformed : (cs : List Call) → malformed (reached cs) ≡ false
-never-malformed cs = calls-keep _ cs fresh-well-formed
+never-malformed cs = calls-keep (λ d. malformed d ≡ false) call-keeps _ cs fresh-well-formed
 
 -- The counts balance.
 pub conservation : (cs : List Call)

@@ -1,4 +1,4 @@
--- A sample keeps a well-formed device well-formed, and its FIFO laid out; it counts one sample.
+-- A sample keeps a well-formed device well-formed, and its FIFO laid out; it counts one sample, and leaves ENABLE.
 -- The idea: the sample is counted first, which leaves room for one line, one pixel and one word more. Assumes nothing.
 use mathlib.Core.Bool.{true}
 use mathlib.Core.List.{List}
@@ -18,11 +18,12 @@ use Rattle.output.proofs.WellFormed.{OutputOk, enabling-ok, count-sample-ok, gr
 use Rattle.output.proofs.Untouched.{grant-untouched, offer-untouched, discard-laid}
 use Rattle.rules.specs.declared.Capture.{Capture}
 use Rattle.rules.specs.declared.Device.{Device}
-use Rattle.rules.specs.State.{device, capture-of, output-of}
+use Rattle.rules.specs.State.{device, capture-of, output-of, with-cr, with-ris, with-registers, with-frame, with-partial, raise, clear-capture, close-frame}
 use Rattle.rules.specs.Capture.{capture-sample}
 use Rattle.rules.specs.Run.{lose-frame, after-word, full-word, complete, after-grant, counted, step}
 use Rattle.bits.proofs.Booleans.{by-cond, either}
 use Rattle.rules.proofs.WellFormed.{CaptureOk, WellFormed}
+use Rattle.laws.proofs.RegisterValues.{lowered-enable}
 use Rattle.laws.proofs.CaptureParts.{raise-ok, clear-capture-ok, close-frame-ok}
 use Rattle.laws.proofs.Moved.{sample-ok, sample-enable, word-enabled}
 
@@ -65,19 +66,25 @@ step-keeps d buffer w h =
     (rw (leaves .samples) (sample-ok w (h .capture)))
     (enabling-ok q (λ off. sym same ∙ off))
 
+-- What holds of the device without a full word, with one that is held and with one that is lost, holds after rule 9.
+pub by-word : (P : Device → Type 0) (o : Option ℕ) (s : Capture) (x : OutputState) → P (device s x) → ((v : ℕ) → P (device s (offer v x .state)))
+    → ((v : ℕ) → P (device (lose-frame s) (discard 1 (offer v x .state)))) → P (complete o s x .device)
+unfolding complete full-word after-word
+by-word P none s x nothing held lost = nothing
+by-word P (some v) s x nothing held lost = go (offer v x .fate)
+  where
+    go : (f : Fate) → P (after-word f v s (offer v x .state) .device)
+    go Held = held v
+    go Lost = lost v
+
 -- The FIFO stays laid out in the slots.
 pub counted-laid : {x : OutputState} → Laid x → Laid (counted x)
 unfolding counted count-sample with-counts contents
 counted-laid l = record { fits = l .fits; slots = l .slots }
 
 complete-laid : (o : Option ℕ) (s : Capture) (x : OutputState) → Laid x → Laid (output-of (complete o s x .device))
-unfolding complete full-word offer after-word
-complete-laid none s x l = l
-complete-laid (some v) s x l = go (offer v x .fate)
-  where
-    go : (f : Fate) → Laid (output-of (after-word f v s (offer v x .state) .device))
-    go Held = offer-untouched v x .laid l
-    go Lost = discard-laid 1 (offer v x .state)
+complete-laid o s x l =
+    by-word (λ (d : Device). Laid (output-of d)) o s x l (λ v. offer-untouched v x .laid l) (λ v. discard-laid 1 (offer v x .state))
 
 pub step-laid : (d : Device) (buffer : List ℕ) (w : ℕ) → Laid (output-of d) → Laid (output-of (step d buffer w .device))
 unfolding step after-grant counted
@@ -86,27 +93,34 @@ step-laid d buffer w l = complete-laid _ _ _ (grant-untouched (bus-grant w) _ (c
 -- Rule 9 leaves the words landed as they are.
 pub complete-landed : (o : Option ℕ) (s : Capture) (x : OutputState)
     → complete o s x .device .core .output .counts .landed ≡ x .output .counts .landed
-unfolding complete full-word after-word discard holding with-held count-discarded with-counts
-complete-landed none s x = refl
-complete-landed (some v) s x = go (offer v x .fate) ∙ offer-untouched v x .landed
-  where
-    go : (f : Fate) → after-word f v s (offer v x .state) .device .core .output .counts .landed ≡ offer v x .state .output .counts .landed
-    go Held = refl
-    go Lost = refl
+unfolding discard holding with-held count-discarded with-counts
+complete-landed o s x =
+    let same : (v : ℕ) → offer v x .state .output .counts .landed ≡ x .output .counts .landed = λ v. offer-untouched v x .landed in
+    by-word (λ (d : Device). d .core .output .counts .landed ≡ x .output .counts .landed) o s x refl same same
 
 -- One sample more is counted.
 complete-samples : (o : Option ℕ) (s : Capture) (x : OutputState)
     → complete o s x .device .core .output .counts .samples ≡ x .output .counts .samples
-unfolding complete full-word after-word discard holding with-held count-discarded with-counts
-complete-samples none s x = refl
-complete-samples (some v) s x = go (offer v x .fate) ∙ offer-untouched v x .samples
-  where
-    go : (f : Fate) → after-word f v s (offer v x .state) .device .core .output .counts .samples ≡ offer v x .state .output .counts .samples
-    go Held = refl
-    go Lost = refl
+unfolding discard holding with-held count-discarded with-counts
+complete-samples o s x =
+    let same : (v : ℕ) → offer v x .state .output .counts .samples ≡ x .output .counts .samples = λ v. offer-untouched v x .samples in
+    by-word (λ (d : Device). d .core .output .counts .samples ≡ x .output .counts .samples) o s x refl same same
 
 pub step-samples : (d : Device) (buffer : List ℕ) (w : ℕ)
     → step d buffer w .device .core .output .counts .samples ≡ d .core .output .counts .samples + 1
 unfolding step after-grant counted count-sample with-counts
 step-samples d buffer w =
     complete-samples _ _ _ ∙ grant-untouched (bus-grant w) (enable (d .core .capture .registers .cr)) (counted (output-of d)) buffer .samples
+
+-- ENABLE stays.
+lose-frame-enable : (s : Capture) → enable (lose-frame s .registers .cr) ≡ enable (s .registers .cr)
+unfolding lose-frame close-frame with-frame with-partial clear-capture raise with-registers with-cr with-ris
+lose-frame-enable s =
+    either (λ (t : Capture). enable (t .registers .cr) ≡ enable (s .registers .cr)) (snapshot (s .registers .cr)) (lowered-enable _) refl
+
+pub step-enable : (d : Device) (b : List ℕ) (w : ℕ) → enable (step d b w .device .core .capture .registers .cr) ≡ enable (d .core .capture .registers .cr)
+unfolding step after-grant
+step-enable d b w =
+    let s = d .core .capture in
+    let same = sample-enable s w in
+    by-word (λ (e : Device). enable (e .core .capture .registers .cr) ≡ enable (s .registers .cr)) _ _ _ same (λ v. same) (λ v. lose-frame-enable _ ∙ same)

@@ -1,36 +1,36 @@
--- Rules 3 to 5, at a working edge before its pixel (`Kept`): a well-formed capture state stays so, CR stays but for CAPTURE, OVR and the pins stay, and no datum
--- is packed.
--- The idea: rule 4 alone changes CR, by clearing CAPTURE; the flags raised are not OVR; a partial word is kept or dropped. Assumes nothing.
+-- Rules 3 to 5, at a working edge before its pixel (`Kept`): a well-formed capture state stays so, CR stays but for CAPTURE, OVR, ERR and the pins stay, and no
+-- datum is packed.
+-- The idea: rule 4 alone changes CR, by clearing CAPTURE; the flags raised are not OVR or ERR; a partial word is kept or dropped. Assumes nothing.
 use mathlib.Core.Bool.{true, not, _&&_, true≢false}
 use mathlib.Core.Path.{_≡_, refl, sym, _∙_}
-use Prim.Native.Nat.{ℕ, _+_, _/_, _%_, _^_, _≤_, _<_}
+use Prim.Native.Nat.{ℕ, _/_, _≤_, _<_}
 use native.Mathlib.Nat.{mod-lt}
 use native.Mathlib.Omega.{arith}
 use lib.Dec.{eqb}
-use borrow.Author.Tests.{eqb-false}
 use Rattle.bits.specs.Bits.{bit}
 use Rattle.registers.specs.Control.{capture, snapshot, fcrc, enable}
 use Rattle.rules.specs.declared.Syncs.{Syncs}
 use Rattle.rules.specs.declared.Frame.{Frame}
 use Rattle.rules.specs.declared.Frame.the-variants.{Closed, Open}
 use Rattle.rules.specs.declared.Capture.{Capture}
-use Rattle.rules.specs.State.{raised, with-cr, with-ris, with-registers, with-frame, with-rate, with-partial, raise, clear-capture, close-frame}
+use Rattle.rules.specs.State.{with-cr, with-ris, with-registers, with-frame, with-rate, with-partial, raise, clear-capture, close-frame}
 use Rattle.rules.specs.Capture.{vsync-flag, line-flag, sync-flags, frame-captured, end-of, frame-end, rate-period, next-rate, open-frame, starts, start-of, frame-start}
 use Rattle.rules.specs.WellFormed.{unused-bits}
 use Rattle.bits.proofs.Booleans.{and-true, by-cond, either}
 use Rattle.rules.proofs.WellFormed.{CaptureOk}
-use Rattle.laws.proofs.RegisterValues.{lowered-half, allowed, capture-enable}
+use Rattle.laws.proofs.RegisterValues.{raised-other, lowered-half, allowed, capture-enable}
 use Rattle.laws.proofs.CaptureParts.{none-partial, raise-ok, clear-capture-ok, close-frame-ok}
 
 pub record Kept (s t : Capture) : Type 0 where
   pub ok : (n : ℕ) → CaptureOk n s → CaptureOk n t
   pub half : t .registers .cr / 2 ≡ s .registers .cr / 2
   pub overrun : bit 1 (t .registers .ris) ≡ bit 1 (s .registers .ris)
+  pub error : bit 2 (t .registers .ris) ≡ bit 2 (s .registers .ris)
   pub pins : t .pins ≡ s .pins
   pub fewer : t .partial .count ≤ s .partial .count
 
 pub kept : (s : Capture) → Kept s s
-kept s = record { ok = λ n h. h; half = refl; overrun = refl; pins = refl; fewer = omega arith }
+kept s = record { ok = λ n h. h; half = refl; overrun = refl; error = refl; pins = refl; fewer = omega arith }
 
 pub then : {s t u : Capture} → Kept s t → Kept t u → Kept s u
 then a b =
@@ -38,32 +38,28 @@ then a b =
       ok = λ n h. b .ok n (a .ok n h);
       half = b .half ∙ a .half;
       overrun = b .overrun ∙ a .overrun;
+      error = b .error ∙ a .error;
       pins = b .pins ∙ a .pins;
       fewer = omega arith;
     }
 
--- A flag other than OVR: raising it does not carry into bit 1.
-raised-overrun : (k x : ℕ) → (¬ (x / 2 ^ k % 2 ≡ 1) → (x + 2 ^ k) / 2 ^ 1 % 2 ≡ x / 2 ^ 1 % 2) → bit 1 (raised k x) ≡ bit 1 x
-unfolding raised
-raised-overrun k x carry = by-cond (λ y. bit 1 y ≡ bit 1 x) (bit k x) _ _ (λ e. refl) (λ e. rw (carry (eqb-false _ 1 e)))
-
-even-carry : (x : ℕ) → ¬ (x / 2 ^ 0 % 2 ≡ 1) → (x + 2 ^ 0) / 2 ^ 1 % 2 ≡ x / 2 ^ 1 % 2
-even-carry x e = let h : (x + 1) / 2 ≡ x / 2 = omega arith in rw h
-
-raise-kept : (k : ℕ) (s : Capture) → k ≤ 4 → bit 1 (raised k (s .registers .ris)) ≡ bit 1 (s .registers .ris) → Kept s (raise k s)
+-- A flag other than OVR and ERR.
+raise-kept : (k : ℕ) (s : Capture) → k ≤ 4 → ¬ (1 ≡ k) → ¬ (2 ≡ k) → Kept s (raise k s)
 unfolding raise with-registers with-ris
-raise-kept k s flag e = record { ok = λ n h. raise-ok k flag h; half = refl; overrun = e; pins = refl; fewer = omega arith }
+raise-kept k s flag not-1 not-2 =
+    let r = s .registers .ris in
+    record { ok = λ n h. raise-ok k flag h; half = refl; overrun = raised-other 1 k r not-1; error = raised-other 2 k r not-2; pins = refl; fewer = omega arith }
 
 -- Rule 3.
 vsync-flag-kept : (s : Capture) (now : Syncs) → Kept s (vsync-flag s now)
 unfolding vsync-flag
 vsync-flag-kept s now =
-    either (Kept s) (not (s .syncs .vsync) && now .vsync) (raise-kept 3 s (omega arith) (raised-overrun 3 _ (λ e. omega arith))) (kept s)
+    either (Kept s) (not (s .syncs .vsync) && now .vsync) (raise-kept 3 s (omega arith) (omega arith) (omega arith)) (kept s)
 
 line-flag-kept : (s : Capture) (now : Syncs) → Kept s (line-flag s now)
 unfolding line-flag
 line-flag-kept s now =
-    either (Kept s) (not (s .syncs .hsync) && now .hsync) (raise-kept 4 s (omega arith) (raised-overrun 4 _ (λ e. omega arith))) (kept s)
+    either (Kept s) (not (s .syncs .hsync) && now .hsync) (raise-kept 4 s (omega arith) (omega arith) (omega arith)) (kept s)
 
 pub sync-flags-kept : (s : Capture) (now : Syncs) → Kept s (sync-flags s now)
 unfolding sync-flags
@@ -72,18 +68,18 @@ sync-flags-kept s now = then (vsync-flag-kept s now) (line-flag-kept _ now)
 -- Rules 4 and 9: with CM 1 CAPTURE is cleared.
 clear-capture-kept : (s : Capture) → Kept s (clear-capture s)
 unfolding clear-capture with-registers with-cr
-clear-capture-kept s = record { ok = λ n h. clear-capture-ok h; half = lowered-half (s .registers .cr); overrun = refl; pins = refl; fewer = omega arith }
+clear-capture-kept s = record { ok = λ n h. clear-capture-ok h; half = lowered-half (s .registers .cr); overrun = refl; error = refl; pins = refl; fewer = omega arith }
 
 -- Rule 4.
 frame-captured-kept : (s : Capture) → Kept s (frame-captured s)
 unfolding frame-captured
 frame-captured-kept s =
-    let up = raise-kept 0 s (omega arith) (raised-overrun 0 _ (even-carry _)) in
+    let up = raise-kept 0 s (omega arith) (omega arith) (omega arith) in
     either (Kept s) (snapshot (s .registers .cr)) (then up (clear-capture-kept _)) up
 
 close-frame-kept : (s : Capture) → Kept s (close-frame s)
 unfolding close-frame with-frame with-partial
-close-frame-kept s = record { ok = λ n h. close-frame-ok h; half = refl; overrun = refl; pins = refl; fewer = omega arith }
+close-frame-kept s = record { ok = λ n h. close-frame-ok h; half = refl; overrun = refl; error = refl; pins = refl; fewer = omega arith }
 
 end-of-kept : (f : Frame) (s : Capture) → Kept s (end-of f s)
 unfolding end-of
@@ -128,6 +124,7 @@ open-frame-kept s closed c =
           };
       half = refl;
       overrun = refl;
+      error = refl;
       pins = refl;
       fewer = omega arith;
     }

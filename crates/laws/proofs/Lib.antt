@@ -8,3 +8,4 @@ pub mod Keeps
 pub mod WriteControl
 pub mod KeepsWrites
 pub mod Conservation
+pub mod Flags

@@ -1,5 +1,5 @@
 -- What a sample makes of the capture state (`Moved`): a well-formed one stays so, with one more allowed in the bound on lines and pixels; CR stays but for
--- CAPTURE, OVR and the pins stay, and at most one datum is packed. The idea: rules 3 to 5 pack none (`Kept`), and rules 6 to 8 leave the registers. Assumes nothing.
+-- CAPTURE, OVR, ERR and the pins stay, and at most one datum is packed. The idea: rules 3 to 5 pack none (`Kept`), and rules 6 to 8 leave the registers. Assumes nothing.
 use mathlib.Core.Bool.{Bool, true, _&&_}
 use mathlib.Core.Option.{Option, none, some}
 use mathlib.Core.Path.{_≡_, refl, _∙_}
@@ -36,6 +36,7 @@ pub record Moved (s : Capture) (c : Captured) : Type 0 where
   pub ok : (n : ℕ) → CaptureOk n s → CaptureOk (n + 1) (c .state)
   pub half : c .state .registers .cr / 2 ≡ s .registers .cr / 2
   pub overrun : bit 1 (c .state .registers .ris) ≡ bit 1 (s .registers .ris)
+  pub error : bit 2 (c .state .registers .ris) ≡ bit 2 (s .registers .ris)
   pub pins : c .state .pins ≡ s .pins
   pub paced : Paced (per-word (edm (s .registers .cr))) (s .partial .count) (c .state .partial .count) (c .word)
 
@@ -50,6 +51,7 @@ after {s} {t} {c} k m =
       ok = λ n h. m .ok n (k .ok n h);
       half = m .half ∙ k .half;
       overrun = m .overrun ∙ k .overrun;
+      error = m .error ∙ k .error;
       pins = m .pins ∙ k .pins;
       paced = same-pace _ _ _ _ (c .word) (k .fewer) (rw (same-edm _ _ (half-setup _ _ (k .half))) at (m .paced));
     }
@@ -60,7 +62,7 @@ grow {s = s} h = pins-syncs-ok (s .pins) (s .syncs) (omega arith) h
 
 no-word-moved : {s t : Capture} → Kept s t → Moved s (no-word t)
 unfolding no-word
-no-word-moved k = record { ok = λ n h. grow (k .ok n h); half = k .half; overrun = k .overrun; pins = k .pins; paced = omega arith }
+no-word-moved k = record { ok = λ n h. grow (k .ok n h); half = k .half; overrun = k .overrun; error = k .error; pins = k .pins; paced = omega arith }
 
 -- Rule 6.
 next-pixel-ok : {n : ℕ} {s : Capture} (taken : Bool) (f : Scan) → s .frame ≡ Open taken f → CaptureOk n s
@@ -108,10 +110,11 @@ pixel-moved s taken f x in-f =
       ok = λ n h. pack-ok x (and-true _ _ t .0) (next-pixel-ok taken f in-f h);
       half = rw (p .registers);
       overrun = rw (p .registers);
+      error = rw (p .registers);
       pins = p .pins;
       paced = p .paced;
     })
-    (λ t. record { ok = λ n h. next-pixel-ok taken f in-f h; half = refl; overrun = refl; pins = refl; paced = omega arith })
+    (λ t. record { ok = λ n h. next-pixel-ok taken f in-f h; half = refl; overrun = refl; error = refl; pins = refl; paced = omega arith })
 
 pixel-in-moved : (f : Frame) (s : Capture) (now : Syncs) (x : ℕ) → s .frame ≡ f → Moved s (pixel-in f s now x)
 unfolding pixel-in
@@ -126,6 +129,7 @@ syncs-moved c now m =
       ok = λ n h. pins-syncs-ok (c .state .pins) now (omega arith) (m .ok n h);
       half = m .half;
       overrun = m .overrun;
+      error = m .error;
       pins = m .pins;
       paced = m .paced;
     }

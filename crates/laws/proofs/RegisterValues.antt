@@ -1,8 +1,8 @@
--- What the rules make of a register's value: a raised flag keeps RIS at most 31, and clearing CAPTURE keeps every other field of CR.
+-- What the rules make of a register's value: a raised flag keeps RIS at most 31 and its other flags, and clearing CAPTURE keeps every other field of CR.
 -- The idea: two values with the same half have the same bits from bit 1 on. Assumes nothing.
 use mathlib.Core.Bool.{Bool, true, false, not, _&&_, _||_}
 use mathlib.Core.List.{List, [], _∷_}
-use mathlib.Core.Path.{_≡_, refl}
+use mathlib.Core.Path.{_≡_, refl, ap}
 use Prim.Native.Nat.{ℕ, zero, suc, _+_, _-_, _/_, _%_, _^_, _≤_}
 use native.Mathlib.Nat.{div-div-eq-div-mul, pow-succ'}
 use native.Mathlib.Omega.{arith}
@@ -38,6 +38,26 @@ raised-fits (suc (suc (suc zero))) x flag h = raised-where 3 x (omega arith) h
 raised-fits (suc (suc (suc (suc zero)))) x flag h = raised-where 4 x (omega arith) h
 raised-fits (suc (suc (suc (suc (suc k))))) x flag h = absurd (omega arith)
 
+-- Bits from bit 1 on.
+pub above : (k x : ℕ) → x / 2 ^ suc k ≡ x / 2 / 2 ^ k
+above k x = rw (pow-succ' 2 k, div-div-eq-div-mul)
+
+same-above : (k x y : ℕ) → x / 2 ≡ y / 2 → x / 2 ^ suc k ≡ y / 2 ^ suc k
+same-above k x y h = rw (above k x, above k y, h)
+
+-- Raising a flag that is 0 carries into no other bit.
+carry : (j k x : ℕ) → ¬ (j ≡ k) → ¬ (x / 2 ^ k % 2 ≡ 1) → (x + 2 ^ k) / 2 ^ j % 2 ≡ x / 2 ^ j % 2
+carry zero zero x other off = absurd (other refl)
+carry zero (suc k) x other off = rw (pow-succ' 2 k) (omega arith)
+carry (suc j) zero x other off = rw (same-above j (x + 1) x (omega arith))
+carry (suc j) (suc k) x other off =
+    let half : (x + 2 ^ suc k) / 2 ≡ x / 2 + 2 ^ k = rw (pow-succ' 2 k) (omega arith) in
+    rw (above j (x + 2 ^ suc k), above j x, half) (carry j k (x / 2) (λ e. other (ap suc e)) (rw (above k x) at off))
+
+pub raised-other : (j k x : ℕ) → ¬ (j ≡ k) → bit j (raised k x) ≡ bit j x
+unfolding raised
+raised-other j k x other = by-cond (λ y. bit j y ≡ bit j x) (bit k x) _ _ (λ e. refl) (λ e. rw (carry j k x other (eqb-false _ 1 e)))
+
 pub lowered-half : (x : ℕ) → lowered 0 x / 2 ≡ x / 2
 unfolding lowered
 lowered-half x = by-cond (λ y. y / 2 ≡ x / 2) (bit 0 x) _ _ (λ e. omega (arith, bit-true 0 x e)) (λ e. refl)
@@ -48,10 +68,6 @@ lowered-capture x =
     by-cond (λ y. capture y ≡ false) (bit 0 x) _ _
     (λ e. ne-eqb ((x - 2 ^ 0) / 2 ^ 0 % 2) 1 (omega (arith, bit-true 0 x e)))
     (λ e. e)
-
--- Bits from bit 1 on.
-same-above : (k x y : ℕ) → x / 2 ≡ y / 2 → x / 2 ^ suc k ≡ y / 2 ^ suc k
-same-above k x y h = rw (pow-succ' 2 k, ← div-div-eq-div-mul x 2 (2 ^ k), ← div-div-eq-div-mul y 2 (2 ^ k), h)
 
 -- Two values that differ in CAPTURE at most: the bits 13:1 and ENABLE.
 pub half-setup : (x y : ℕ) → x / 2 ≡ y / 2 → field 13 1 x ≡ field 13 1 y
