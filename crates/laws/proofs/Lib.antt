@@ -8,4 +8,5 @@ pub mod Keeps
 pub mod WriteControl
 pub mod KeepsWrites
 pub mod Conservation
+pub mod CountsFromHistory
 pub mod Flags

@@ -1,2 +1,2 @@
-// Laws of the rules: no accepted call makes a malformed device from a well-formed one, so completed = landed + held + discarded holds
-// after every call from reset. There is no code here; the crates above cite proofs/.
+// Laws of the rules over every list of calls from reset: no device is malformed, so completed = landed + held + discarded; the counts are those of the
+// history; ERR never rises. There is no code here; the crates above cite proofs/.
