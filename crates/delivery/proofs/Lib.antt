@@ -4,6 +4,7 @@ pub mod Following
 pub mod SetUp
 pub mod NotedNumbers
 pub mod OneCall
+pub mod Unsampled
 pub mod Prefixes
 pub mod Theorem
 pub mod Outcome

@@ -13,9 +13,9 @@ use Rattle.rules.specs.State.{output-of}
 use Rattle.rules.specs.Run.{in-memory, sample}
 use Rattle.rules.proofs.EveryRule.{every-rule}
 use Rattle.bits.proofs.Booleans.{and-true}
-use Rattle.delivery.specs.Calls.{Write, written, Call, System, accepted, after-call, samples, inside, moments}
-use Rattle.delivery.specs.Noted.{write-found, noted-write, noted-writes, note, noted, spacing}
-use Rattle.delivery.specs.Delivery.{grants, Scenario, set-up, trace, distance, noted-by, Premises}
+use Rattle.delivery.specs.Calls.{SetUpCall, a-write, after-set-up, after-set-ups, devices, Call, System, accepted, after-call, samples, inside, moments}
+use Rattle.delivery.specs.Noted.{write-found, noted-write, noted-set-up, noted-set-ups, note, noted, spacing}
+use Rattle.delivery.specs.Delivery.{grants, Scenario, set-up, trace, distance, noted-by, Premises, all-moments}
 
 -- A test that each tail of a list passes.
 abbrev pub tails : (List ℕ → Bool) → List ℕ → Bool
@@ -59,13 +59,13 @@ pub record Outcome : Type 0 where
   pub overrun : Bool
 
 unfoldable pub outcome : ℕ → ℕ → Scenario → Outcome
-unfolding final grants spacing written accepted after-call samples inside moments noted-write noted-writes write-found note noted every-rule in-memory sample
+unfolding final grants spacing after-set-up after-set-ups devices accepted after-call samples inside moments noted-write noted-set-up noted-set-ups write-found note noted every-rule in-memory sample
 outcome w g x =
     let d = final (x .start) (set-up x) (x .calls) .device in
     record {
       met = has-room x && tails (has-grants w g) (trace x);
       distance = distance x;
-      moments = length (moments (x .start) (set-up x) 0 (x .calls));
+      moments = length (all-moments x);
       samples = length (trace x);
       noted = map (λ n. n .sample) (noted-by x (length (trace x)));
       completed = d .core .output .counts .completed;
@@ -90,5 +90,5 @@ unfolding outcome
 premises x e four = let h = windows (depth * 4) depth x e in record { room = h .room; granted = rw four (h .granted) }
 
 -- A write of CR: 12 bits, snapshot, polarities 1, enabled and capturing.
-abbrev pub twelve-bits : Write
-twelve-bits = record { offset = 0; value = 0x48E3; fits = omega arith }
+abbrev pub twelve-bits : SetUpCall
+twelve-bits = a-write 0 0x48E3 (omega arith)

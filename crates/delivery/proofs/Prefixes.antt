@@ -15,9 +15,9 @@ use Rattle.delivery.specs.Delivery.{All}
 use Rattle.delivery.proofs.Following.{answer}
 use Rattle.delivery.proofs.OneCall.{ran, sampled, accepts, after-call-is, within-memory, none-some, sample-says}
 
-all-join : {A : Type 0} (P : A → Type 0) (xs : List A) (y : A) (ys : List A) → All P xs → P y → All P ys → All P (xs ++ y ∷ ys)
-all-join P [] y ys p q r = (q, r)
-all-join P (x ∷ xs) y ys p q r = (p .0, all-join P xs y ys (p .1) q r)
+pub all-append : {A : Type 0} (P : A → Type 0) (xs ys : List A) → All P xs → All P ys → All P (xs ++ ys)
+all-append P [] ys p q = q
+all-append P (x ∷ xs) ys p q = (p .0, all-append P xs ys (p .1) q)
 
 module _ (start : ℕ) (s₀ : System) where
   -- Device and memory after samples xs. The memory is told by its bytes before the start byte and by the frame buffer.
@@ -105,9 +105,10 @@ module _ (start : ℕ) (s₀ : System) where
       let zs = samples start s′ cs in
       let next : n + length ws ≡ length (xs ++ ws) = rw length-append (omega arith) in
       let a′ = call-after xs s c a in
-      all-join (Reached (xs ++ (ws ++ zs))) (inside start s n ws) _ (moments start s′ (n + length ws) cs) (call-inside xs zs n s c e a)
-      (rw append-assoc at (reached (xs ++ ws) zs _ _ _ next a′ (says-answered xs s c a)))
-      (rw append-assoc at (moments-reached (xs ++ ws) cs _ _ next a′))
+      all-append (Reached (xs ++ (ws ++ zs))) (inside start s n ws) (_ ∷ moments start s′ (n + length ws) cs) (call-inside xs zs n s c e a) (
+        rw append-assoc at (reached (xs ++ ws) zs _ _ _ next a′ (says-answered xs s c a)),
+        rw append-assoc at (moments-reached (xs ++ ws) cs _ _ next a′),
+      )
 
 -- Each moment of some calls is that after a first part of their accepted samples.
 pub all-reached : (start : ℕ) (s : System) (cs : List Call) → All (Reached start s (samples start s cs)) (moments start s 0 cs)

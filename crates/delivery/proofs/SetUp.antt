@@ -1,4 +1,5 @@
--- After the register writes from reset nothing is sampled, held or counted, and the capture state is what the register rules alone make, with RIS still 0.
+-- While a device is set up, from reset, nothing is sampled, held or counted, and the capture state is what the register rules alone make, with RIS still 0:
+-- before the set-up calls, after each and after all.
 use mathlib.Core.Bool.{Bool, true, false, cond}
 use mathlib.Core.List.{List, [], _∷_}
 use mathlib.Core.Path.{_≡_, refl}
@@ -13,14 +14,15 @@ use Rattle.registers.specs.declared.Found.the-variants.{At, Nothing}
 use Rattle.refusals.specs.Refusals.{first}
 use Rattle.output.specs.Output.{OutputState, with-held, holding, fresh-output, with-counts, count-discarded, discard}
 use Rattle.rules.specs.declared.Capture.{Capture}
+use Rattle.rules.specs.declared.Device.{Device}
 use Rattle.rules.specs.State.{device, fresh-capture, fresh, close-frame, with-cr, with-ris, with-ier, with-cwstrt, with-cwsize, with-registers, with-syncs, with-frame, with-rate, with-partial}
 use Rattle.rules.specs.RegisterCalls.{disables, register-tests, write-refusal, enabling, disabling, switch-enable, capture-rises, switch-capture, write-control, clear-flags, write-register, write-at, write}
 use Rattle.rules.specs.WellFormed.{malformed}
 use Rattle.bits.proofs.Booleans.{either}
 use Rattle.laws.proofs.Keeps.{fresh-well-formed}
 use Rattle.laws.proofs.KeepsWrites.{write-keeps}
-use Rattle.delivery.specs.Calls.{Write, written}
-use Rattle.delivery.specs.Noted.{write-found, noted-write, noted-writes}
+use Rattle.delivery.specs.Calls.{SetUpCall, a-write, after-set-up, after-set-ups}
+use Rattle.delivery.specs.Noted.{write-found, noted-write, noted-set-up, noted-set-ups}
 
 -- The effect of a write. Where ENABLE falls, no word is held, and none is discarded.
 write-at-is : (r : Found) (v : ℕ) (s : Capture) → write-at (device s fresh-output) r v ≡ device (write-found r v s) fresh-output
@@ -30,29 +32,17 @@ write-at-is (At r) v s =
     either (λ (x : OutputState). device (write-register r v s) x ≡ device (write-register r v s) fresh-output) (disables (s .registers .cr) r v) refl refl
 
 -- A write, accepted or refused: of a well-formed device the register tests alone refuse it.
-write-is : (s : Capture) (w : Write) → malformed (device s fresh-output) ≡ false
-    → write (device s fresh-output) (w .offset) (w .value) .device ≡ device (noted-write s w) fresh-output
+write-is : (s : Capture) (offset v : ℕ) → malformed (device s fresh-output) ≡ false
+    → write (device s fresh-output) offset v .device ≡ device (noted-write s offset v) fresh-output
 unfolding write write-refusal noted-write
-write-is s w formed = rw formed (go (eqb (first (register-tests (s .registers .cr) (register-at (w .offset)) (w .value))) 0))
+write-is s offset v formed = rw formed (go (eqb (first (register-tests (s .registers .cr) (register-at offset) v)) 0))
   where
     r : Found
-    r = register-at (w .offset)
+    r = register-at offset
 
-    go : (b : Bool) → cond b (write-at (device s fresh-output) r (w .value)) (device s fresh-output) ≡ device (cond b (write-found r (w .value) s) s) fresh-output
-    go true = write-at-is r (w .value) s
+    go : (b : Bool) → cond b (write-at (device s fresh-output) r v) (device s fresh-output) ≡ device (cond b (write-found r v s) s) fresh-output
+    go true = write-at-is r v s
     go false = refl
-
-written-is : (s : Capture) (ws : List Write) → malformed (device s fresh-output) ≡ false
-    → written (device s fresh-output) ws ≡ device (noted-writes s ws) fresh-output
-unfolding written noted-writes
-written-is s [] formed = refl
-written-is s (w ∷ ws) formed =
-    let one = write-is s w formed in
-    rw one (written-is (noted-write s w) ws (rw one at (write-keeps _ (w .offset) (w .value) (w .fits) formed)))
-
-pub after-writes : (ws : List Write) → written fresh ws ≡ device (noted-writes (fresh .core .capture) ws) fresh-output
-unfolding fresh
-after-writes ws = written-is fresh-capture ws fresh-well-formed
 
 -- RIS stays 0: of the writes ICR alone changes it, and it only clears.
 abbrev No-flag : Capture → Type 0
@@ -76,14 +66,34 @@ found-flag (At InterruptClear) v s h = omega arith
 found-flag (At WindowStart) v s h = h
 found-flag (At WindowSize) v s h = h
 
-writes-flag : (s : Capture) (ws : List Write) → No-flag s → No-flag (noted-writes s ws)
-unfolding noted-writes noted-write
-writes-flag s [] h = h
-writes-flag s (w ∷ ws) h =
-    let r = register-at (w .offset) in
-    writes-flag (noted-write s w) ws
-    (either No-flag (eqb (first (register-tests (s .registers .cr) r (w .value))) 0) (found-flag r (w .value) s h) h)
+write-flag : (s : Capture) (offset v : ℕ) → No-flag s → No-flag (noted-write s offset v)
+unfolding noted-write
+write-flag s offset v h =
+    either No-flag (eqb (first (register-tests (s .registers .cr) (register-at offset) v)) 0) (found-flag (register-at offset) v s h) h
 
-pub no-flag : (ws : List Write) → noted-writes (fresh .core .capture) ws .registers .ris ≡ 0
+-- The device d while it is set up, with the capture state s.
+pub record Ready (s : Capture) (d : Device) : Type 0 where
+  pub is : d ≡ device s fresh-output
+  pub formed : malformed d ≡ false
+  pub no-flag : No-flag s
+
+pub one-ready : (s : Capture) (d : Device) (c : SetUpCall) → Ready s d → Ready (noted-set-up s c) (after-set-up d c)
+unfolding noted-set-up after-set-up
+one-ready s d (a-write offset v fits) r =
+    record {
+      is = rw (r .is) (write-is s offset v (rw (r .is) at (r .formed)));
+      formed = write-keeps d offset v fits (r .formed);
+      no-flag = write-flag s offset v (r .no-flag);
+    }
+
+all-ready : (s : Capture) (d : Device) (cs : List SetUpCall) → Ready s d → Ready (noted-set-ups s cs) (after-set-ups d cs)
+unfolding noted-set-ups after-set-ups
+all-ready s d [] r = r
+all-ready s d (c ∷ cs) r = all-ready _ _ cs (one-ready s d c r)
+
+pub fresh-ready : Ready (fresh .core .capture) fresh
 unfolding fresh fresh-capture
-no-flag ws = writes-flag (fresh .core .capture) ws refl
+fresh-ready = record { is = refl; formed = fresh-well-formed; no-flag = refl }
+
+pub set-up-ready : (cs : List SetUpCall) → Ready (noted-set-ups (fresh .core .capture) cs) (after-set-ups fresh cs)
+set-up-ready cs = all-ready _ _ cs fresh-ready

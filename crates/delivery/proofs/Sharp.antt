@@ -6,7 +6,7 @@ use Prim.Native.Nat.{ℕ, zero, suc, _+_, _*_, _/_, _%_}
 use native.Mathlib.Omega.{arith}
 use lib.ListN.{length, replicate}
 use Rattle.bits.specs.Bits.{bit}
-use Rattle.delivery.specs.Calls.{Write, a-run}
+use Rattle.delivery.specs.Calls.{SetUpCall, a-write, a-run}
 use Rattle.delivery.specs.Delivery.{Scenario, set-up, trace, noted-by}
 use Rattle.delivery.proofs.Outcome.{Windows, final, Outcome, outcome, windows, twelve-bits}
 
@@ -21,8 +21,8 @@ pixels i [] = []
 pixels i (g ∷ gs) = (i / 2 + 1 + i % 2 * 0x10000 + cond g 0x20000 0) ∷ pixels (suc i) gs
 
 -- One run: a blank edge and then pixels with these grants.
-abbrev pub one-run : Write → List Bool → Scenario
-one-run cr gs = record { writes = cr ∷ []; calls = a-run (0x0C000 ∷ 0x1C000 ∷ pixels 0 gs) ∷ []; start = 0; memory = replicate (length gs) 0 }
+abbrev pub one-run : SetUpCall → List Bool → Scenario
+one-run cr gs = record { set-up-calls = cr ∷ []; calls = a-run (0x0C000 ∷ 0x1C000 ∷ pixels 0 gs) ∷ []; start = 0; memory = replicate (length gs) 0 }
 
 -- k numbers, s apart, from n on.
 abbrev pub every : ℕ → ℕ → ℕ → List ℕ
@@ -44,7 +44,7 @@ last-lost s k n l =
     record {
       met = true;
       distance = s;
-      moments = n + 1;
+      moments = n + 3;
       samples = n;
       noted = every s (s + 2) k;
       completed = k;
@@ -74,8 +74,8 @@ unfolding outcome
 scarce = overruns 16 3 4 8 34 3 (one-run twelve-bits (periods 2 3 13)) refl
 
 -- The same at 8 bits: four in each 33, three in each 32.
-abbrev pub eight-bits : Write
-eight-bits = record { offset = 0; value = 0x40E3; fits = omega arith }
+abbrev pub eight-bits : SetUpCall
+eight-bits = a-write 0 0x40E3 (omega arith)
 
 pub slow-8 : Overruns 33 4 8 17 (one-run eight-bits (replicate 4 false ++ periods 4 4 29))
 unfolding outcome

@@ -1,6 +1,6 @@
 -- Demand 3 (`delivery`). The idea: the calls are one list of samples, over which the device is the capture rules beside the output rules, and these land every word.
 use mathlib.Core.Bool.{Bool, true, false, true≢false}
-use mathlib.Core.List.{List, [], _∷_, _++_}
+use mathlib.Core.List.{List, [], _∷_, _++_, map}
 use mathlib.Core.Option.{Option, none, some}
 use mathlib.Core.Path.{_≡_, refl, sym, ap, _∙_}
 use Prim.Native.Nat.{ℕ, _+_, _*_, _≤_, _<_}
@@ -14,19 +14,20 @@ use Rattle.landing.specs.Landing.{Out, puts, Fits, Conditions, Landed}
 use Rattle.landing.proofs.Theorem.{empty, fits, landed}
 use Rattle.rules.specs.declared.Capture.{Capture}
 use Rattle.rules.specs.Capture.{enabled, remember-pins, capture-sample}
-use Rattle.rules.specs.State.{device, with-pins}
+use Rattle.rules.specs.State.{device, fresh, with-pins}
 use Rattle.rules.specs.Run.{Packed, Ran}
 use Rattle.laws.proofs.Moved.{sample-moved, sample-enable, word-enabled}
-use Rattle.delivery.specs.Calls.{Moment, moments}
+use Rattle.delivery.specs.Calls.{devices, Moment, moments}
 use Rattle.delivery.specs.Noted.{Noted, noted, words, noted-at}
-use Rattle.delivery.specs.Delivery.{Scenario, set-up, trace, configured, distance, Premises, Promised, All, Delivery}
+use Rattle.delivery.specs.Delivery.{Scenario, set-up, trace, configured, distance, Premises, Promised, All, unsampled, Delivery}
 use Rattle.delivery.proofs.Inputs.{input, inputs, captures, inputs-append, inputs-take, inputs-length, window-grants, inputs-words, count-words}
 use Rattle.delivery.proofs.Spacing.{always-spaced, spacing-positive}
 use Rattle.delivery.proofs.Following.{steps-fit, last-answer}
-use Rattle.delivery.proofs.SetUp.{after-writes, no-flag}
+use Rattle.delivery.proofs.SetUp.{fresh-ready, set-up-ready}
 use Rattle.delivery.proofs.NotedNumbers.{numbered, last-noted}
 use Rattle.delivery.proofs.OneCall.{ran}
-use Rattle.delivery.proofs.Prefixes.{Answered, Reached, all-reached}
+use Rattle.delivery.proofs.Unsampled.{each-promised}
+use Rattle.delivery.proofs.Prefixes.{all-append, Answered, Reached, all-reached}
 
 -- The capture rules never raise OVR, and note no word while ENABLE is 0.
 captures-overrun : (s : Capture) (xs : List ℕ) → bit 1 (s .registers .ris) ≡ false → bit 1 (captures s xs .registers .ris) ≡ false
@@ -74,7 +75,7 @@ module _ (x : Scenario) (p : Premises x) where
     fit = fits (inputs (configured x) xs) (inputs (captures (configured x) xs) zs) split
 
     follows : ran (x .start) (set-up x) xs ≡ record { device = device (captures (configured x) xs) (out x xs .state); buffer = out x xs .buffer }
-    follows = rw after-writes (steps-fit (configured x) (empty (lent x)) xs refl fit)
+    follows = rw (set-up-ready (x .set-up-calls) .is) (steps-fit (configured x) (empty (lent x)) xs refl fit)
 
     lands : Landed (distance x) (x .start) (x .memory) (inputs (configured x) xs) (out x xs)
     lands = landed (inputs (configured x) xs) (inputs (captures (configured x) xs) zs) split (x .start) (x .memory) refl
@@ -94,7 +95,7 @@ module _ (x : Scenario) (p : Premises x) where
       let w = a .last in
       let number : length (ys ++ w ∷ []) ≡ 0 + length ys + 1 = rw length-append (omega arith) in
       let says = last-answer (configured x) (empty (lent x)) ys w refl (fit (ys ++ w ∷ []) zs (e ∙ rw (a .split))) in
-      rw (a .split, number, last-noted) (a .packed ∙ rw after-writes says)
+      rw (a .split, number, last-noted) (a .packed ∙ rw (set-up-ready (x .set-up-calls) .is) says)
 
   -- A moment after them.
   promised : (m : Moment) → Reached (x .start) (set-up x) (trace x) m → Promised x m
@@ -107,7 +108,7 @@ module _ (x : Scenario) (p : Premises x) where
       let bytes = rw (r .at .front, r .at .buffer) at (take-append-drop (x .start) (m .memory)) in
       let l = lands xs (r .rest) e in
       record {
-        no-overrun = rw here (captures-overrun (configured x) xs (rw (no-flag (x .writes))));
+        no-overrun = rw here (captures-overrun (configured x) xs (rw (set-up-ready (x .set-up-calls) .no-flag)));
         none-discarded = rw here (l .none-discarded);
         completed = rw (at, here) (l .completed ∙ count-words _ xs);
         in-memory = rw (at, here, ← bytes, now, ← inputs-words 0 (configured x) xs) (l .in-memory);
@@ -121,8 +122,10 @@ all-map : {A : Type 0} (P Q : A → Type 0) → ((a : A) → P a → Q a) → (x
 all-map P Q f [] p = tt
 all-map P Q f (x ∷ xs) p = (f x (p .0), all-map P Q f xs (p .1))
 
--- Every moment of the calls is that after the first of their accepted samples.
+-- Every moment of the runs and single samples is that after the first of their accepted samples; the others are before any.
 pub delivery : (x : Scenario) → Delivery x
 delivery x p =
-    all-map (Reached (x .start) (set-up x) (trace x)) (Promised x) (promised x p) (moments (x .start) (set-up x) 0 (x .calls))
-    (all-reached (x .start) (set-up x) (x .calls))
+    let calls = moments (x .start) (set-up x) 0 (x .calls) in
+    all-append (Promised x) (map (unsampled x) (devices fresh (x .set-up-calls))) calls
+    (each-promised x _ _ (x .set-up-calls) fresh-ready)
+    (all-map (Reached (x .start) (set-up x) (trace x)) (Promised x) (promised x p) calls (all-reached (x .start) (set-up x) (x .calls)))

@@ -1,4 +1,4 @@
--- Lists of calls, one after the other: register writes from reset, then runs and single samples, refused calls included. Each call gets
+-- Lists of calls, one after the other: set-up calls from reset, then runs and single samples, refused calls included. Each call gets
 -- the device and memory that the last one left.
 use mathlib.Core.Bool.{cond}
 use mathlib.Core.List.{List, [], _∷_, _++_}
@@ -11,16 +11,22 @@ use Rattle.refusals.specs.Refusals.{Answer, refused, answered}
 use Rattle.rules.specs.RegisterCalls.{write}
 use Rattle.rules.specs.Run.{Packed, step, run-refusal, run, SampleAnswer, sample}
 
--- A register write. Its value is a 32-bit number.
-pub record Write : Type 0 where
-  pub offset : ℕ
-  pub value : ℕ
-  pub fits : value < 2 ^ 32
+-- A set-up call: a register write. Its value is a 32-bit number.
+pub data SetUpCall : Type 0 where
+  a-write : (offset value : ℕ) → value < 2 ^ 32 → SetUpCall
 
--- The device after a list of register writes.
-unfoldable pub written : Device → List Write → Device
-written d [] = d
-written d (w ∷ ws) = written (write d (w .offset) (w .value) .device) ws
+-- The device that a set-up call leaves, and that after some.
+unfoldable pub after-set-up : Device → SetUpCall → Device
+after-set-up d (a-write offset value fits) = write d offset value .device
+
+unfoldable pub after-set-ups : Device → List SetUpCall → Device
+after-set-ups d [] = d
+after-set-ups d (c ∷ cs) = after-set-ups (after-set-up d c) cs
+
+-- The devices on the way: the one before the set-up calls, and that after each of them.
+unfoldable pub devices : Device → List SetUpCall → List Device
+devices d [] = d ∷ []
+devices d (c ∷ cs) = d ∷ devices (after-set-up d c) cs
 
 -- A call: a run of some samples, or one sample.
 pub data Call : Type 0 where

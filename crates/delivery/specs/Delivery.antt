@@ -1,43 +1,44 @@
 -- Demand 3, as document 01's last section spells it out: its premises and its promises.
 use mathlib.Core.Bool.{false, cond}
-use mathlib.Core.List.{List, [], _∷_, _++_}
-use mathlib.Core.Option.{some}
+use mathlib.Core.List.{List, [], _∷_, _++_, map}
+use mathlib.Core.Option.{none, some}
 use mathlib.Core.Path.{_≡_}
 use Prim.Native.Nat.{ℕ, _+_, _-_, _*_, _≤_, _<_}
 use lib.ListN.{length, take, drop}
 use Rattle.bits.specs.Bits.{bit}
 use Rattle.rules.specs.declared.Capture.{Capture}
+use Rattle.rules.specs.declared.Device.{Device}
 use Rattle.rules.specs.State.{output-of, fresh}
 use Rattle.rules.specs.Run.{Packed}
 use Rattle.samples.specs.Samples.{bus-grant}
 use Rattle.output.specs.Output.{depth, contents}
 use Rattle.landing.specs.Memory.{with-words}
-use Rattle.delivery.specs.Calls.{Write, written, Call, System, samples, Moment, moments}
-use Rattle.delivery.specs.Noted.{Noted, noted-writes, noted, words, noted-at, spacing}
+use Rattle.delivery.specs.Calls.{SetUpCall, after-set-ups, devices, Call, System, samples, Moment, moments}
+use Rattle.delivery.specs.Noted.{Noted, noted-set-ups, noted, words, noted-at, spacing}
 
 -- How many of some samples grant the bus.
 unfoldable pub grants : List ℕ → ℕ
 grants [] = 0
 grants (w ∷ ws) = cond (bus-grant w) 1 0 + grants ws
 
--- Everything that the claim is about: the writes from reset, the calls, the one start byte and the memory first lent.
+-- Everything that the claim is about: the set-up calls from reset, the runs and single samples, the one start byte and the memory first lent.
 pub record Scenario : Type 0 where
-  pub writes : List Write
+  pub set-up-calls : List SetUpCall
   pub calls : List Call
   pub start : ℕ
   pub memory : List ℕ
 
--- The bench after the writes.
+-- The bench after the set-up calls.
 abbrev pub set-up : Scenario → System
-set-up x = record { device = written fresh (x .writes); memory = x .memory }
+set-up x = record { device = after-set-ups fresh (x .set-up-calls); memory = x .memory }
 
 -- The accepted samples of all calls.
 abbrev pub trace : Scenario → List ℕ
 trace x = samples (x .start) (set-up x) (x .calls)
 
--- The capture state after the writes, by the register rules alone; the spacing that its EDM gives; and the words noted at the first n samples.
+-- The capture state after the set-up calls, by the register rules alone; the spacing that its EDM gives; and the words noted at the first n samples.
 abbrev pub configured : Scenario → Capture
-configured x = noted-writes (fresh .core .capture) (x .writes)
+configured x = noted-set-ups (fresh .core .capture) (x .set-up-calls)
 
 abbrev pub distance : Scenario → ℕ
 distance x = spacing (configured x .registers .cr)
@@ -76,6 +77,14 @@ abbrev pub All : {A : Type 0} → (A → Type 0) → List A → Type 0
 All P [] = Unit {0}
 All P (x ∷ xs) = P x × All P xs
 
+-- A moment before the first sample: no word is said, and the memory is that first lent.
+abbrev pub unsampled : Scenario → Device → Moment
+unsampled x d = record { device = d; memory = x .memory; count = 0; packed = none }
+
+-- The moments: of the fresh device and after each set-up call, then those of the runs and single samples.
+abbrev pub all-moments : Scenario → List Moment
+all-moments x = map (unsampled x) (devices fresh (x .set-up-calls)) ++ moments (x .start) (set-up x) 0 (x .calls)
+
 -- Demand 3: at every moment, after every call and after every sample inside an accepted run.
 abbrev pub Delivery : Scenario → Type 0
-Delivery x = Premises x → All (Promised x) (moments (x .start) (set-up x) 0 (x .calls))
+Delivery x = Premises x → All (Promised x) (all-moments x)

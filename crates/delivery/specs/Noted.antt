@@ -14,22 +14,26 @@ use Rattle.refusals.specs.Refusals.{first}
 use Rattle.rules.specs.Capture.{capture-sample}
 use Rattle.rules.specs.Run.{Packed, nothing, completed}
 use Rattle.rules.specs.RegisterCalls.{register-tests, write-register}
-use Rattle.delivery.specs.Calls.{Write}
+use Rattle.delivery.specs.Calls.{SetUpCall, a-write}
 
 -- A register write by the register rules alone: refused by 2 to 6, or its effect.
 unfoldable pub write-found : Found → ℕ → Capture → Capture
 write-found Nothing v s = s
 write-found (At r) v s = write-register r v s
 
-unfoldable pub noted-write : Capture → Write → Capture
-noted-write s w =
-    cond (eqb (first (register-tests (s .registers .cr) (register-at (w .offset)) (w .value))) 0)
-    (write-found (register-at (w .offset)) (w .value) s)
+unfoldable pub noted-write : Capture → ℕ → ℕ → Capture
+noted-write s offset v =
+    cond (eqb (first (register-tests (s .registers .cr) (register-at offset) v)) 0)
+    (write-found (register-at offset) v s)
     s
 
-unfoldable pub noted-writes : Capture → List Write → Capture
-noted-writes s [] = s
-noted-writes s (w ∷ ws) = noted-writes (noted-write s w) ws
+-- A set-up call, and some.
+unfoldable pub noted-set-up : Capture → SetUpCall → Capture
+noted-set-up s (a-write offset value fits) = noted-write s offset value
+
+unfoldable pub noted-set-ups : Capture → List SetUpCall → Capture
+noted-set-ups s [] = s
+noted-set-ups s (c ∷ cs) = noted-set-ups (noted-set-up s c) cs
 
 -- A noted word and the number of its sample.
 pub record Noted : Type 0 where
