@@ -1,60 +1,70 @@
--- The premises can be met: a scenario with runs, single samples and refused calls. Five words are noted in 22 samples, and the four that grant stand in every 16 of them.
+-- The premises can be met, at 12 bits and at 8: a scenario with runs, single samples and refused calls. Five words are noted, and the four samples that grant
+-- stand in every 16 (32) of them.
 use mathlib.Core.Bool.{true, false}
-use mathlib.Core.List.{[], _∷_, _++_, map}
+use mathlib.Core.List.{List, [], _∷_, _++_, map}
 use mathlib.Core.Path.{_≡_, refl, ap}
+use Prim.Native.Nat.{ℕ, _+_, _*_}
 use native.Mathlib.Omega.{arith}
 use lib.ListN.{replicate}
-use Rattle.delivery.specs.Calls.{a-write, a-run, a-sample}
+use Rattle.output.specs.Output.{depth}
+use Rattle.delivery.specs.Calls.{SetUpCall, a-write, a-run, a-sample}
 use Rattle.delivery.specs.Delivery.{Scenario, set-up, Premises, Promised, All, all-moments}
 use Rattle.delivery.proofs.Theorem.{delivery}
-use Rattle.delivery.proofs.Outcome.{final, outcome, premises, twelve-bits}
+use Rattle.delivery.proofs.Outcome.{final, Outcome, outcome, premises, twelve-bits, eight-bits, pixels, every}
 
--- Pixels 1 to 10, at two samples each, after a blank edge. Samples 13 to 16 grant. A bit above 17 refuses a run and a single sample.
-unfoldable pub example : Scenario
-example =
+-- A blank edge and n samples of pixels in a run, 6 + m in another, four of which grant, and four alone. A bit above 17 refuses a run and a single sample.
+abbrev pub example : SetUpCall → ℕ → ℕ → Scenario
+example cr n m =
     record {
-      set-up-calls = twelve-bits ∷ [];
+      set-up-calls = cr ∷ [];
       calls =
-          a-run (0x0C000 ∷ 0x1C000 ∷ 0x00001 ∷ 0x10001 ∷ 0x00002 ∷ 0x10002 ∷ 0x00003 ∷ 0x10003 ∷ 0x00004 ∷ 0x10004 ∷ []) ∷
-          a-run (0x00005 ∷ 0x40000 ∷ []) ∷
-          a-run (0x00005 ∷ 0x10005 ∷ 0x20006 ∷ 0x30006 ∷ 0x20007 ∷ 0x30007 ∷ 0x00008 ∷ 0x10008 ∷ []) ∷
-          a-sample 0x00009 ∷
-          a-sample 0x10009 ∷
+          a-run (0x0C000 ∷ 0x1C000 ∷ pixels 0 (replicate n false)) ∷
+          a-run (pixels n (false ∷ []) ++ 0x40000 ∷ []) ∷
+          a-run (pixels n (replicate 2 false ++ replicate 4 true ++ replicate m false)) ∷
+          map a-sample (pixels (n + 6 + m) (replicate 2 false)) ++
           a-sample 0x40000 ∷
-          a-sample 0x0000A ∷
-          a-sample 0x1000A ∷
-          [];
+          map a-sample (pixels (n + 8 + m) (replicate 2 false));
       start = 3;
       memory = replicate 24 0xEE;
     }
 
-pub example-outcome : outcome 16 4 example
-    ≡ record {
+-- The outcome with s samples from word to word: two moments before n samples in eight calls, three words landed, two held.
+abbrev three-landed : ℕ → ℕ → List ℕ → Outcome
+three-landed s n held =
+    record {
       met = true;
-      distance = 4;
-      moments = 32;
-      samples = 22;
-      noted = 6 ∷ 10 ∷ 14 ∷ 18 ∷ 22 ∷ [];
+      distance = s;
+      moments = 2 + n + 8;
+      samples = n;
+      noted = every s (s + 2) 5;
       completed = 5;
       landed = 3;
       discarded = 0;
-      held = 0x80007 ∷ 0xA0009 ∷ [];
+      held = held;
       overrun = false;
     }
-unfolding outcome example
-example-outcome = refl
 
-pub example-memory : final (example .start) (set-up example) (example .calls) .memory
-    ≡ replicate 3 0xEE ++ (1 ∷ 0 ∷ 2 ∷ 0 ∷ 3 ∷ 0 ∷ 4 ∷ 0 ∷ 5 ∷ 0 ∷ 6 ∷ 0 ∷ []) ++ replicate 9 0xEE
-unfolding outcome example
-example-memory = refl
+pub record Delivers (s n : ℕ) (held landed : List ℕ) (x : Scenario) : Type 0 where
+  pub comes-to : outcome (depth * s) depth x ≡ three-landed s n held
+  -- The bytes of the landed words, and those around them.
+  pub in-memory : final (x .start) (set-up x) (x .calls) .memory ≡ replicate 3 0xEE ++ landed ++ replicate 9 0xEE
+  -- So the theorem speaks of the scenario, at each of its moments.
+  pub met : Premises x
+  pub promised : All (Promised x) (all-moments x)
 
-pub example-premises : Premises example
-example-premises = premises example (ap (λ o. o .met) example-outcome) (ap (λ o. o .distance) example-outcome)
+delivers : {s n : ℕ} {held landed : List ℕ} (x : Scenario) → outcome (depth * s) depth x ≡ three-landed s n held
+    → final (x .start) (set-up x) (x .calls) .memory ≡ replicate 3 0xEE ++ landed ++ replicate 9 0xEE → Delivers s n held landed x
+delivers {s} x e m =
+    let met = premises s x (ap (λ o. o .met) e) (ap (λ o. o .distance) e) in
+    record { comes-to = e; in-memory = m; met = met; promised = delivery x met }
 
--- So the theorem speaks of it, at each of its moments.
-pub example-delivered : All (Promised example) (all-moments example)
-example-delivered = delivery example example-premises
+pub at-12-bits : Delivers 4 22 (0x80007 ∷ 0xA0009 ∷ []) (1 ∷ 0 ∷ 2 ∷ 0 ∷ 3 ∷ 0 ∷ 4 ∷ 0 ∷ 5 ∷ 0 ∷ 6 ∷ 0 ∷ []) (example twelve-bits 8 2)
+unfolding outcome
+at-12-bits = delivers (example twelve-bits 8 2) refl refl
+
+pub at-8-bits : Delivers 8 42 (0x100F0E0D ∷ 0x14131211 ∷ []) (1 ∷ 2 ∷ 3 ∷ 4 ∷ 5 ∷ 6 ∷ 7 ∷ 8 ∷ 9 ∷ 10 ∷ 11 ∷ 12 ∷ []) (example eight-bits 20 10)
+unfolding outcome
+at-8-bits = delivers (example eight-bits 20 10) refl refl
 
 -- Without runs and samples there are moments too: CR at reset, and after each of three writes. The second, of CWSTRT with ENABLE 1, is refused.
 abbrev pub set-up-alone : Scenario

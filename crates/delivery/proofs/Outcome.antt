@@ -1,8 +1,9 @@
 -- What a closed scenario comes to, by computation over the rules (`outcome`), and the premises from their test; unfolding `outcome` unfolds every rule.
-use mathlib.Core.Bool.{Bool, true, _&&_, _||_}
+-- At the end what closed scenarios are made of.
+use mathlib.Core.Bool.{Bool, true, cond, _&&_, _||_}
 use mathlib.Core.List.{List, [], _∷_, map}
 use mathlib.Core.Path.{_≡_}
-use Prim.Native.Nat.{ℕ, zero, suc, _+_, _-_, _*_, _≤_}
+use Prim.Native.Nat.{ℕ, zero, suc, _+_, _-_, _*_, _/_, _%_, _≤_}
 use native.Mathlib.Omega.{arith}
 use lib.Dec.{ltb, leb}
 use lib.ListN.{length, take, drop, length-drop}
@@ -84,11 +85,24 @@ windows w g x e =
     window : (k : ℕ) → k + w ≤ length (trace x) → has-grants w g (drop k (trace x)) ≡ true → g ≤ grants (take w (drop k (trace x)))
     window k h t = leb-true g _ (rw (le-ltb (length (drop k (trace x))) w (rw length-drop (omega arith))) at t)
 
--- The premises themselves, for 4 samples from word to word.
-pub premises : (x : Scenario) → outcome (depth * 4) depth x .met ≡ true → outcome (depth * 4) depth x .distance ≡ 4 → Premises x
+-- The premises themselves, for s samples from word to word.
+pub premises : (s : ℕ) (x : Scenario) → outcome (depth * s) depth x .met ≡ true → outcome (depth * s) depth x .distance ≡ s → Premises x
 unfolding outcome
-premises x e four = let h = windows (depth * 4) depth x e in record { room = h .room; granted = rw four (h .granted) }
+premises s x e is = let h = windows (depth * s) depth x e in record { room = h .room; granted = rw is (h .granted) }
 
--- A write of CR: 12 bits, snapshot, polarities 1, enabled and capturing.
+-- Writes of CR: 12 bits and 8 bits, snapshot, polarities 1, enabled and capturing.
 abbrev pub twelve-bits : SetUpCall
 twelve-bits = a-write 0 0x48E3 (omega arith)
+
+abbrev pub eight-bits : SetUpCall
+eight-bits = a-write 0 0x40E3 (omega arith)
+
+-- Pixels 1, 2, 3 and so on, at two samples each, from sample number i on, with these grants.
+abbrev pub pixels : ℕ → List Bool → List ℕ
+pixels i [] = []
+pixels i (g ∷ gs) = (i / 2 + 1 + i % 2 * 0x10000 + cond g 0x20000 0) ∷ pixels (suc i) gs
+
+-- k numbers, s apart, from n on.
+abbrev pub every : ℕ → ℕ → ℕ → List ℕ
+every s n zero = []
+every s n (suc k) = n ∷ every s (n + s) k

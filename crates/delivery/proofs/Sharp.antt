@@ -1,33 +1,22 @@
 -- The premise is needed: with windows one sample longer, or with one grant fewer in each, a frame overruns, though there is room. By computation over the rules.
-use mathlib.Core.Bool.{Bool, true, false, cond}
+use mathlib.Core.Bool.{Bool, true, false}
 use mathlib.Core.List.{List, [], _∷_, _++_, map}
 use mathlib.Core.Path.{_≡_, refl, ap}
-use Prim.Native.Nat.{ℕ, zero, suc, _+_, _*_, _/_, _%_}
-use native.Mathlib.Omega.{arith}
+use Prim.Native.Nat.{ℕ, zero, suc, _+_}
 use lib.ListN.{length, replicate}
 use Rattle.bits.specs.Bits.{bit}
-use Rattle.delivery.specs.Calls.{SetUpCall, a-write, a-run}
+use Rattle.delivery.specs.Calls.{SetUpCall, a-run}
 use Rattle.delivery.specs.Delivery.{Scenario, set-up, trace, noted-by}
-use Rattle.delivery.proofs.Outcome.{Windows, final, Outcome, outcome, windows, twelve-bits}
+use Rattle.delivery.proofs.Outcome.{Windows, final, Outcome, outcome, windows, twelve-bits, eight-bits, pixels, every}
 
 -- k periods of m samples that grant and n that do not.
 abbrev pub periods : ℕ → ℕ → ℕ → List Bool
 periods zero m n = []
 periods (suc k) m n = replicate m true ++ replicate n false ++ periods k m n
 
--- Pixels 1, 2, 3 and so on, at two samples each, from sample number i on, with these grants.
-abbrev pub pixels : ℕ → List Bool → List ℕ
-pixels i [] = []
-pixels i (g ∷ gs) = (i / 2 + 1 + i % 2 * 0x10000 + cond g 0x20000 0) ∷ pixels (suc i) gs
-
 -- One run: a blank edge and then pixels with these grants.
 abbrev pub one-run : SetUpCall → List Bool → Scenario
 one-run cr gs = record { set-up-calls = cr ∷ []; calls = a-run (0x0C000 ∷ 0x1C000 ∷ pixels 0 gs) ∷ []; start = 0; memory = replicate (length gs) 0 }
-
--- k numbers, s apart, from n on.
-abbrev pub every : ℕ → ℕ → ℕ → List ℕ
-every s n zero = []
-every s n (suc k) = n ∷ every s (n + s) k
 
 pub record Overruns (w g s k : ℕ) (x : Scenario) : Type 0 where
   -- There is room for all words, and each w samples hold at least g grants.
@@ -74,9 +63,6 @@ unfolding outcome
 scarce = overruns 16 3 4 8 34 3 (one-run twelve-bits (periods 2 3 13)) refl
 
 -- The same at 8 bits: four in each 33, three in each 32.
-abbrev pub eight-bits : SetUpCall
-eight-bits = a-write 0 0x40E3 (omega arith)
-
 pub slow-8 : Overruns 33 4 8 17 (one-run eight-bits (replicate 4 false ++ periods 4 4 29))
 unfolding outcome
 slow-8 = overruns 33 4 8 17 138 12 (one-run eight-bits (replicate 4 false ++ periods 4 4 29)) refl
