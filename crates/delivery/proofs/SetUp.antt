@@ -6,19 +6,18 @@ use mathlib.Core.Path.{_≡_, refl}
 use Prim.Native.Nat.{ℕ, _-_}
 use native.Mathlib.Omega.{arith}
 use lib.Dec.{eqb}
-use Rattle.registers.specs.Control.{enable}
 use Rattle.registers.specs.Map.{register-at}
-use Rattle.registers.specs.declared.Register.the-variants.{Control, Status, RawStatus, InterruptEnable, MaskedStatus, InterruptClear, WindowStart, WindowSize}
 use Rattle.registers.specs.declared.Found.{Found}
 use Rattle.registers.specs.declared.Found.the-variants.{At, Nothing}
 use Rattle.refusals.specs.Refusals.{first}
 use Rattle.output.specs.Output.{OutputState, with-held, holding, fresh-output, with-counts, count-discarded, discard}
 use Rattle.rules.specs.declared.Capture.{Capture}
 use Rattle.rules.specs.declared.Device.{Device}
-use Rattle.rules.specs.State.{device, fresh-capture, fresh, close-frame, with-cr, with-ris, with-ier, with-cwstrt, with-cwsize, with-registers, with-syncs, with-frame, with-rate, with-partial}
-use Rattle.rules.specs.RegisterCalls.{disables, register-tests, write-refusal, enabling, disabling, switch-enable, capture-rises, switch-capture, write-control, clear-flags, write-register, write-at, write}
+use Rattle.rules.specs.State.{device, fresh-capture, fresh}
+use Rattle.rules.specs.RegisterCalls.{disables, register-tests, write-refusal, write-register, write-at, write}
 use Rattle.rules.specs.WellFormed.{malformed}
 use Rattle.bits.proofs.Booleans.{either}
+use Rattle.laws.proofs.Flags.{write-flags}
 use Rattle.laws.proofs.Keeps.{fresh-well-formed}
 use Rattle.laws.proofs.KeepsWrites.{write-keeps}
 use Rattle.delivery.specs.Calls.{SetUpCall, a-write, after-set-up, after-set-ups}
@@ -48,23 +47,10 @@ write-is s offset v formed = rw formed (go (eqb (first (register-tests (s .regis
 abbrev No-flag : Capture → Type 0
 No-flag s = s .registers .ris ≡ 0
 
-control-flag : (v : ℕ) (s : Capture) → No-flag s → No-flag (write-control v s)
-unfolding write-control with-registers with-cr switch-capture switch-enable enabling disabling close-frame with-syncs with-frame with-rate with-partial
-control-flag v s h =
-    let same = either No-flag (enable (s .registers .cr)) (either No-flag (enable v) h h) (either No-flag (enable v) h h) in
-    either No-flag (capture-rises v s) same same
-
 found-flag : (r : Found) (v : ℕ) (s : Capture) → No-flag s → No-flag (write-found r v s)
-unfolding write-found write-register with-registers with-ier clear-flags with-ris with-cwstrt with-cwsize
+unfolding write-found
 found-flag Nothing v s h = h
-found-flag (At Control) v s h = control-flag v s h
-found-flag (At Status) v s h = h
-found-flag (At RawStatus) v s h = h
-found-flag (At InterruptEnable) v s h = h
-found-flag (At MaskedStatus) v s h = h
-found-flag (At InterruptClear) v s h = omega arith
-found-flag (At WindowStart) v s h = h
-found-flag (At WindowSize) v s h = h
+found-flag (At r) v s h = write-flags (λ x. x ≡ 0) (λ x y e. omega arith) v s h r
 
 write-flag : (s : Capture) (offset v : ℕ) → No-flag s → No-flag (noted-write s offset v)
 unfolding noted-write
