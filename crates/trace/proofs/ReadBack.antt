@@ -9,15 +9,11 @@ use lib.ListN.{length, take, length-append}
 use lib.Seq.{take-at, drop-at}
 use borrow.Author.Tests.{le-ltb, eq-eqb}
 use Rattle.trace.specs.declared.Write.{Write}
-use Rattle.trace.specs.Format.{header-length, write-size, sample-size, little, write-bytes, sample-bytes, mark, version, header, encode}
+use Rattle.trace.specs.Format.{WritesFit, header-length, write-size, sample-size, little, write-bytes, sample-bytes, mark, version, header, encode}
 use Rattle.trace.specs.Reading.{field, same, write-count, sample-count, whole, form-refusal, write-at, sample-at, writes-from, samples-from, writes-of, samples-of, write-start, sample-start}
 use Rattle.trace.proofs.Numbers.{length-little, number-little}
 
 -- What a trace file can hold.
-abbrev pub WritesFit : List Write → Type 0
-WritesFit [] = Unit {0}
-WritesFit (w ∷ ws) = (w .offset < 256) × (w .value < 2 ^ 32) × WritesFit ws
-
 abbrev pub SamplesFit : List ℕ → Type 0
 SamplesFit [] = Unit {0}
 SamplesFit (s ∷ ss) = (s < 2 ^ 18) × SamplesFit ss

@@ -12,9 +12,9 @@ use borrow.Author.Tests.{ltb-false, eqb-true, not-false}
 use Rattle.refusals.proofs.Accepted.{accepted}
 use Rattle.bits.proofs.Booleans.{and-true}
 use Rattle.refusals.specs.Refusals.{_⇒_}
-use Rattle.trace.specs.Format.{header-length, write-size, sample-size, little, write-bytes, sample-bytes, mark, version, header, encode}
+use Rattle.trace.specs.Format.{Bytes, header-length, write-size, sample-size, little, write-bytes, sample-bytes, mark, version, header, encode}
 use Rattle.trace.specs.Reading.{field, same, write-count, sample-count, whole, form-refusal, write-at, sample-at, writes-from, samples-from, writes-of, samples-of, write-start, sample-start}
-use Rattle.trace.proofs.Numbers.{Bytes, bytes-take, bytes-drop, little-number}
+use Rattle.trace.proofs.Numbers.{bytes-take, bytes-drop, little-number}
 
 -- What the form checks say of a file.
 pub record Formed (f : List ℕ) : Type 0 where

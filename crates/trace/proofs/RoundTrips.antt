@@ -17,12 +17,12 @@ use Rattle.bits.proofs.Booleans.{or-false}
 use Rattle.refusals.specs.Refusals.{_⇒_, answered}
 use Rattle.samples.specs.Samples.{bad-sample, any-bad}
 use Rattle.trace.specs.declared.Write.{Write}
-use Rattle.trace.specs.Format.{encode}
+use Rattle.trace.specs.Format.{Bytes, WritesFit, encode}
 use Rattle.trace.specs.Reading.{Item, a-write, a-sample, the-end, checked, past, found, read, visits, form-refusal, write-count, sample-count, sample-at, writes-from, samples-from, writes-of, samples-of}
 use Rattle.trace.specs.Writing.{WriteResult, write-refusal, write}
 use Rattle.trace.proofs.Fields.{field-one}
-use Rattle.trace.proofs.Numbers.{Bytes, byte-below}
-use Rattle.trace.proofs.ReadBack.{WritesFit, SamplesFit, Fits, form-back, write-count-back, sample-count-back, writes-back, samples-back}
+use Rattle.trace.proofs.Numbers.{byte-below}
+use Rattle.trace.proofs.ReadBack.{SamplesFit, Fits, form-back, write-count-back, sample-count-back, writes-back, samples-back}
 use Rattle.trace.proofs.Rewritten.{formed, rewritten, length-writes-of, length-samples-of}
 use Rattle.trace.proofs.Walk.{write-place, sample-place, end-place}
 

@@ -6,9 +6,8 @@ use Prim.Native.Nat.{ℕ, _+_, _-_, _≤_, _<_}
 use native.Mathlib.Omega.{arith}
 use borrow.Author.Tests.{lt-ltb, le-ltb}
 use Rattle.trace.specs.declared.Write.{Write}
-use Rattle.trace.specs.Format.{encode}
+use Rattle.trace.specs.Format.{Bytes, encode}
 use Rattle.trace.specs.Reading.{Item, a-write, a-sample, the-end, refused, checked, item, past, write-count, sample-count, form-refusal, write-at, sample-at, writes-of, samples-of}
-use Rattle.trace.proofs.Numbers.{Bytes}
 use Rattle.trace.proofs.Rewritten.{rewritten}
 
 -- The places below the number of writes hold the writes, in order.

@@ -1,8 +1,18 @@
 -- The trace file, version 1 (document 01, "Trace file, version 1"): the bytes of some writes and samples.
 use mathlib.Core.List.{List, [], _∷_, _++_}
-use Prim.Native.Nat.{ℕ, zero, suc, _/_, _%_}
+use Prim.Native.Nat.{ℕ, zero, suc, _/_, _%_, _^_, _<_}
 use lib.ListN.{length}
 use Rattle.trace.specs.declared.Write.{Write}
+
+-- Every number of a list is a byte: so are a file's. A write's offset is a byte, its value a 32-bit number: what the code's types hold, and the premises of the two
+-- round trips.
+abbrev pub Bytes : List ℕ → Type 0
+Bytes [] = Unit {0}
+Bytes (b ∷ bs) = (b < 256) × Bytes bs
+
+abbrev pub WritesFit : List Write → Type 0
+WritesFit [] = Unit {0}
+WritesFit (w ∷ ws) = (w .offset < 256) × (w .value < 2 ^ 32) × WritesFit ws
 
 -- The n lowest bytes of a number, little-endian.
 unfoldable pub little : ℕ → ℕ → List ℕ
