@@ -3,8 +3,8 @@
 # Writes only below target. The exit status is 0 only if everything passed.
 set -u
 cd "$(dirname "$0")/.." || exit 2
+. tests/c/library.sh
 
-LIBRARY=target/staticlib/libdcmi.a
 OUT=target/tests
 STRICT="-Wall -Wextra -pedantic -Werror -Iinclude"
 PARTS="tests/c/compare.c tests/c/checked.c tests/c/inputs.c tests/c/guard.c tests/c/model.c"
@@ -18,9 +18,8 @@ fail() {
     exit 1
 }
 
-rt staticlib dcmi >target/staticlib.log 2>&1 || fail "rt staticlib dcmi (target/staticlib.log)"
-[ -f "$LIBRARY" ] || fail "$LIBRARY is not there"
 mkdir -p "$OUT" || fail "cannot make $OUT"
+make_library || fail "rt staticlib dcmi (target/staticlib.log)"
 
 gcc -std=c11 $STRICT tests/c/header.c "$LIBRARY" -o "$OUT/header_c" || fail "the header as C11"
 g++ -std=c++17 $STRICT tests/c/header.cc "$LIBRARY" -o "$OUT/header_cc" || fail "the header as C++17"
