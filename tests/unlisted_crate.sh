@@ -1,5 +1,6 @@
 #!/usr/bin/env bash
-# The gate refuses a crate that is not listed: tried on a copy with one more folder and an `rt` that would pass.
+# The gate refuses a crate that is not listed, and its last two lines are its seconds and its count: tried on a copy with one more folder and an `rt`
+# that would pass.
 set -u
 cd "$(dirname "$0")/.." || exit 2
 copy=$(mktemp -d)
@@ -7,14 +8,21 @@ trap 'rm -rf "$copy"' EXIT
 mkdir -p "$copy/.ci" "$copy/bin" "$copy/crates/listed" "$copy/crates/hidden"
 cp .ci/run "$copy/.ci/run"
 echo 'listed:' >"$copy/crates.txt"
-printf '#!/bin/sh\necho "1 passed, 0 failed"\n' >"$copy/bin/rt"
+cat >"$copy/bin/rt" <<'END'
+#!/bin/sh
+echo "rt: listed proved (0 s)"
+echo "rt: must-fail listed/edit: refused, as it must be (0 s)"
+echo "2 passed, 0 failed"
+END
 chmod +x "$copy/bin/rt"
 out=$(PATH="$copy/bin:$PATH" bash "$copy/.ci/run")
 status=$?
-if [ $status -ne 0 ] && grep -q 'crates/hidden is not listed' <<<"$out" && [ "$(tail -n 1 <<<"$out")" = '2 passed, 1 failed' ]; then
+if [ $status -ne 0 ] && grep -q 'crates/hidden is not listed' <<<"$out" &&
+    tail -n 2 <<<"$out" | head -n 1 | grep -Eqx 'seconds: proofs [0-9]+, must-fail edits [0-9]+, tests [0-9]+' &&
+    [ "$(tail -n 1 <<<"$out")" = '3 passed, 1 failed' ]; then
     echo "unlisted crate: the gate says so and fails"
 else
-    echo "unlisted crate: the gate did not refuse it: status $status"
+    echo "unlisted crate: the gate did not refuse it, or did not end as it should: status $status"
     echo "$out"
     exit 1
 fi
