@@ -7,7 +7,7 @@ cd "$(dirname "$0")/.." || exit 2
 
 OUT=target/tests
 STRICT="-Wall -Wextra -pedantic -Werror -Iinclude"
-PARTS="tests/c/compare.c tests/c/checked.c tests/c/inputs.c tests/c/guard.c tests/c/model.c"
+PARTS="tests/c/compare.c tests/c/checked.c tests/c/reached.c tests/c/inputs.c tests/c/guard.c tests/c/model.c"
 
 # Seeds of the short run under valgrind, and how many calls of each.
 SHORT_SEEDS="0 1 3 5 6"
@@ -27,8 +27,22 @@ g++ -std=c++17 $STRICT tests/c/header.cc "$LIBRARY" -o "$OUT/header_cc" || fail 
 "$OUT/header_cc" || fail "header.cc: check $?"
 echo "The header as C11 and as C++17: compiled without warnings, each call made, null pointers beside a length of 0."
 
-gcc -std=c11 -O1 -g -DMODEL_COUNT $STRICT $PARTS "$LIBRARY" -o "$OUT/compare" || fail "compiling the comparison"
-"$OUT/compare" || fail "the comparison (above; single seeds: $OUT/compare SEED)"
+gcc -std=c11 -O1 -g $STRICT $PARTS "$LIBRARY" -o "$OUT/compare" || fail "compiling the comparison"
+"$OUT/compare" >"$OUT/compare.out"
+status=$?
+cat "$OUT/compare.out"
+[ "$status" -eq 0 ] || fail "the comparison (above; single seeds: $OUT/compare SEED)"
+
+# docs/INSPECTOR.md shows two lines of the comparison; they are of the whole of it.
+if ! grep -q 'was left out' "$OUT/compare.out"; then
+    stale=0
+    while read -r line; do
+        grep -qxF "    $line" docs/INSPECTOR.md && continue
+        echo "docs/INSPECTOR.md does not show this line, indented by four: $line"
+        stale=1
+    done < <(grep -E '^  in all |^[0-9]+ seeds, ' "$OUT/compare.out")
+    [ "$stale" -eq 0 ] || fail "docs/INSPECTOR.md shows other lines of the comparison than those printed"
+fi
 
 if command -v valgrind >/dev/null; then
     for seed in $SHORT_SEEDS; do

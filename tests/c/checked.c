@@ -9,37 +9,19 @@
 #include <sys/mman.h>
 #include <unistd.h>
 
-#include "branches.h"
 #include "guard.h"
 #include "inputs.h"
 #include "model.h"
-
-enum call { RESET, WRITE, READ, INTERRUPT, REARM, SAMPLE, RUN, RUN_FILE, TRACE_WRITE, TRACE_ITEM, CALLS };
-
-static const char *const call_name[CALLS] = {
-    "dcmi_reset", "dcmi_write", "dcmi_read", "dcmi_interrupt", "dcmi_rearm", "dcmi_sample", "dcmi_run", "dcmi_run_file", "dcmi_trace_write",
-    "dcmi_trace_item",
-};
+#include "reached.h"
 
 static const char *const word_name[DCMI_WORDS] = {
     "CR", "RIS", "IER", "CWSTRT", "CWSIZE", "HSYNC", "VSYNC", "CLOCK", "HSYNC_BLANKED", "VSYNC_BLANKED", "FRAME", "LINES", "PIXELS", "RATE",
     "PARTIAL_COUNT", "PARTIAL_BITS", "SLOT 0", "SLOT 1", "SLOT 2", "SLOT 3", "HELD", "PLACE", "SAMPLES", "COMPLETED", "LANDED", "DISCARDED",
 };
 
-/* The call that is being made. */
-static struct call_made {
-    enum call call;
-    uint64_t number;             /* counted from 1 in each seed */
-    uint32_t offset, value;      /* of a register; the value is a sample too */
-    size_t start, place;
-    const uint32_t *samples;
-    const uint8_t *file;
-    const dcmi_writes *writes;
-    size_t count, length;        /* of the samples; of the file or the writer's buffer */
-    uint32_t before[DCMI_WORDS]; /* the device */
-} now;
-
-static uint64_t seed, limit;
+static call now; /* the call that is being made */
+static const char *program;
+static uint64_t seed, limit, last;
 static lending how;
 static unsigned differences;
 
@@ -53,10 +35,6 @@ static bool memory_is_far;
 /* What the library is lent. */
 static guarded g_device, g_memory, g_samples, g_file, g_out, g_output, g_writes, g_offsets, g_values;
 
-/* Counts of the whole program. */
-static uint64_t answers[CALLS][16];
-static uint64_t together[CALLS][8][8]; /* calls with two reasons for a refusal at once */
-static uint64_t samples_compared;
 static bool far_missing;
 
 /* ---- reports ---- */
@@ -77,8 +55,8 @@ static void print_bytes(const uint8_t *bytes, size_t count)
 
 static void print_call(void)
 {
-    printf("seed %" PRIu64 ", call %" PRIu64 ": %s", seed, now.number, call_name[now.call]);
-    switch (now.call) {
+    printf("seed %" PRIu64 ", call %" PRIu64 ": %s", seed, now.number, call_name[now.kind]);
+    switch (now.kind) {
     case WRITE: printf(", offset 0x%" PRIX32 ", value 0x%" PRIX32, now.offset, now.value); break;
     case READ: printf(", offset 0x%" PRIX32, now.offset); break;
     case SAMPLE: printf(", memory of %zu bytes, start %zu, sample 0x%05" PRIX32, length_of_memory, now.start, now.value); break;
@@ -102,13 +80,14 @@ static void print_inputs(void)
         printf("  file");
         print_bytes(now.file, now.length);
     }
-    if (now.call > RUN_FILE) return;
+    if (now.kind > RUN_FILE) return;
     printf("  device before, words that are not 0:\n");
     for (unsigned i = 0; i < DCMI_WORDS; i++)
         if (now.before[i]) printf("    %-14s 0x%08" PRIX32 "\n", word_name[i], now.before[i]);
 }
 
-static void print_command(void) { printf("run alone: compare %" PRIu64 "\n", seed); }
+/* The last call that this makes is the one at hand. */
+static void print_command(void) { printf("again: %s %" PRIu64 " %" PRIu64 "\n", program, seed, now.number); }
 
 /* Called before each difference is described. */
 static void difference(void)
@@ -156,8 +135,9 @@ static void catch_signals(void)
 
 /* ---- the two sides ---- */
 
-void checked_start(void)
+void checked_start(const char *name)
 {
+    program = name;
     catch_signals();
     guard_make(&g_device, sizeof(dcmi_device));
     guard_make(&g_memory, MOST_MEMORY);
@@ -170,12 +150,13 @@ void checked_start(void)
     guard_make(&g_values, 4 * 255);
 }
 
-void checked_seed(uint64_t number, lending lent, uint64_t calls)
+void checked_seed(uint64_t number, lending lent, uint64_t calls, uint64_t last_call)
 {
     seed = number;
     how = lent;
     limit = calls;
-    now = (struct call_made){ 0 };
+    last = last_call;
+    now = (call){ 0 };
     memset(want_device, 0, sizeof want_device);
     guard_lend(&g_device, sizeof(dcmi_device), how.at_end);
     memset(g_device.at, 0, sizeof(dcmi_device));
@@ -292,9 +273,13 @@ static void compare_beside(const char *what, const guarded *g)
 
 /* ---- one call ---- */
 
-static void begin(enum call call)
+static void begin(call_kind kind)
 {
-    now = (struct call_made){ .call = call, .number = now.number + 1 };
+    if (last && now.number == last) {
+        printf("no difference up to here\n");
+        exit(0);
+    }
+    now = (call){ .kind = kind, .number = now.number + 1, .memory = want_memory, .memory_length = length_of_memory };
     memcpy(now.before, want_device, sizeof want_device);
 }
 
@@ -309,7 +294,11 @@ static uint32_t finish(uint32_t want, uint32_t got)
     compare_beside("device", &g_device);
     compare_beside("memory", &g_memory);
     stop_if_different();
-    answers[now.call][want]++;
+    now.answer = want;
+    memcpy(now.after, want_device, sizeof want_device);
+    const char *wrong = reached_call(&now);
+    if (wrong) differs(wrong);
+    if (now.number == last) print_call();
     return want;
 }
 
@@ -362,120 +351,6 @@ static void compare_fields(const char *const *name, const uint64_t *want, unsign
     compare_beside("output", &g_output);
 }
 
-/* ---- the order of refusals ---- */
-
-/* The reasons for a refusal of each call, in the paper's order; 0 stands for the number of a refused write. */
-static const struct {
-    unsigned count;
-    uint8_t number[8];
-    uint8_t never[8]; /* bit j of entry i: reasons i and j cannot stand together */
-} order[CALLS] = {
-    [WRITE] = { 6, { 1, 2, 3, 4, 5, 6 }, { 0, 0x3C, 0x30 } },
-    [READ] = { 3, { 1, 2, 3 }, { 0, 0x4 } },
-    [SAMPLE] = { 4, { 1, 9, 7, 8 }, { 0 } },
-    [RUN] = { 4, { 1, 9, 7, 8 }, { 0 } },
-    [RUN_FILE] = { 8, { 13, 10, 11, 12, 13, 0, 9, 7 }, { 0xB8, 0x20, 0x20, 0x20, 0xA0 } },
-    [TRACE_WRITE] = { 4, { 14, 12, 7, 15 }, { 0 } },
-    [TRACE_ITEM] = { 6, { 13, 10, 11, 12, 13, 7 }, { 0x38, 0, 0, 0, 0x20 } },
-};
-
-/* Counts the pairs of reasons that hold at once (bit i: reason i), and sees that the model answered the first. */
-static void note_reasons(unsigned reasons, uint32_t answer)
-{
-    unsigned first = 0;
-    while (first < order[now.call].count && !(reasons >> first & 1)) first++;
-    const bool right = first == order[now.call].count ? answer == 0
-                       : order[now.call].number[first] ? answer == order[now.call].number[first]
-                                                       : answer >= 2 && answer <= 6;
-    if (!right) differs("the model's answer is not the first reason in the paper's order");
-    for (unsigned i = first; i < order[now.call].count; i++)
-        for (unsigned j = i + 1; j < order[now.call].count; j++)
-            if ((reasons >> i & 1) && (reasons >> j & 1)) together[now.call][i][j]++;
-}
-
-static unsigned reason(bool holds, unsigned at) { return (unsigned)holds << at; }
-
-static unsigned write_reasons(uint32_t answer)
-{
-    const uint32_t offset = now.offset, value = now.value, cr = now.before[DCMI_W_CR];
-    const bool read_only = offset == DCMI_SR || offset == DCMI_RIS || offset == DCMI_MIS;
-    const bool window = offset == DCMI_CWSTRT || offset == DCMI_CWSIZE;
-    const bool other = offset == DCMI_CR || offset == DCMI_IER || offset == DCMI_ICR;
-    const uint32_t bits = offset == DCMI_CR ? 0x4FFF : offset == DCMI_CWSTRT ? 0x1FFF3FFF : offset == DCMI_CWSIZE ? 0x3FFF3FFF : 0x1F;
-    const bool five = (value & 0x18) || (value & 0x300) == 0x300 || (value & 0x4001) == 1;
-    const bool change = (value ^ cr) & ~UINT32_C(0x4001);
-    return reason(answer == 1, 0)
-         | reason(!read_only && !window && !other, 1)
-         | reason(read_only, 2)
-         | reason((read_only || window || other) && (value & ~bits), 3)
-         | reason(offset == DCMI_CR && five, 4)
-         | reason((cr & 0x4000) && (window || (offset == DCMI_CR && change)), 5);
-}
-
-static unsigned read_reasons(uint32_t answer)
-{
-    const bool known = now.offset % 4 == 0 && now.offset <= 0x24 && now.offset != 0x18 && now.offset != 0x1C;
-    return reason(answer == 1, 0) | reason(!known, 1) | reason(now.offset == DCMI_ICR, 2);
-}
-
-static bool has_bad(const uint32_t *samples, size_t count)
-{
-    uint32_t all = 0;
-    for (size_t i = 0; i < count; i++) all |= samples[i];
-    return all >> 18;
-}
-
-static unsigned run_reasons(uint32_t answer, const uint32_t *samples, size_t count)
-{
-    return reason(answer == 1, 0)
-         | reason(now.start > length_of_memory, 1)
-         | reason(has_bad(samples, count), 2)
-         | reason(now.before[DCMI_W_SAMPLES] + (uint64_t)count > UINT32_MAX, 3);
-}
-
-/* The first five reasons of a file; *body is where its samples begin if its length is as it says, else 0. */
-static unsigned header_reasons(const uint8_t *file, size_t length, size_t *body, size_t *count)
-{
-    *body = 0;
-    *count = length >= 8 ? file[6] + 256u * file[7] : 0;
-    const size_t samples_at = length >= 8 ? 8 + 5u * file[5] : 0;
-    const bool as_said = length >= 8 && length == samples_at + 3 * *count;
-    if (as_said) *body = samples_at;
-    return reason(length < 8, 0)
-         | reason(length >= 3 && memcmp(file, "FGT", 3) != 0, 1)
-         | reason(length >= 5 && (file[3] != 1 || file[4] != 0), 2)
-         | reason(*count > 16384, 3)
-         | reason(length >= 8 && !as_said, 4);
-}
-
-static bool bad_at(const uint8_t *file, size_t body, size_t i) { return file[body + 3 * i + 2] > 3; }
-
-static unsigned file_reasons(uint32_t answer)
-{
-    size_t body, count;
-    bool bad = false;
-    const unsigned header = header_reasons(now.file, now.length, &body, &count);
-    for (size_t i = 0; body && i < count && !bad; i++) bad = bad_at(now.file, body, i);
-    return header | reason(answer >= 2 && answer <= 6, 5) | reason(now.start > length_of_memory, 6) | reason(bad, 7);
-}
-
-static unsigned item_reasons(void)
-{
-    size_t body, count;
-    const unsigned header = header_reasons(now.file, now.length, &body, &count);
-    const size_t writes = body ? now.file[5] : 0;
-    return header | reason(body && now.place >= writes && now.place - writes < count && bad_at(now.file, body, now.place - writes), 5);
-}
-
-static unsigned writer_reasons(void)
-{
-    const bool many = now.count > MOST_SAMPLES || now.writes->count > MOST_FILE;
-    return reason(now.writes->count > 255, 0)
-         | reason(now.count > 16384, 1)
-         | reason(now.count <= MOST_SAMPLES && has_bad(now.samples, now.count), 2)
-         | reason(many || 8 + 5 * now.writes->count + 3 * now.count > now.length, 3);
-}
-
 /* ---- the calls ---- */
 
 uint32_t check_reset(void)
@@ -498,7 +373,6 @@ uint32_t check_write(uint32_t offset, uint32_t value)
         want = model_write(&c, offset, value);
         model_to_image(&c, want_device);
     }
-    note_reasons(write_reasons(want), want);
     return finish(want, dcmi_write(g_device.at, offset, value));
 }
 
@@ -510,11 +384,11 @@ uint32_t check_read(uint32_t offset, uint32_t *value)
     uint32_t want = 1, want_value;
     uint32_t *lent = lend_output(&g_output, &want_value, sizeof want_value);
     if (model_from_image(&c, want_device)) want = model_read(&c, offset, &want_value);
-    note_reasons(read_reasons(want), want);
     if (how.read_only) guard_lock(&g_device);
     const uint32_t got = dcmi_read(g_device.at, offset, lent);
     if (how.read_only) guard_unlock(&g_device);
     compare_output("output value", &g_output, &want_value, sizeof want_value);
+    now.output = want_value;
     if (value && !want) *value = want_value;
     return finish(want, got);
 }
@@ -532,6 +406,7 @@ uint32_t check_interrupt(void)
     const uint32_t got = dcmi_interrupt(g_device.at, lent);
     if (how.read_only) guard_unlock(&g_device);
     compare_output("output line", &g_output, &want_line, sizeof want_line);
+    now.output = want_line;
     return finish(want, got);
 }
 
@@ -562,13 +437,11 @@ uint32_t check_sample(size_t start, uint32_t sample, dcmi_answer *answer)
         want = model_sample(&c, want_memory, length_of_memory, start, sample, &out);
         model_to_image(&c, want_device);
     }
-    note_reasons(run_reasons(want, &sample, 1), want);
     if (!want) {
         want_answer[0] = out.landed;
         want_answer[1] = out.byte;
         want_answer[2] = out.packed == PACKED_WORD ? DCMI_COMPLETED : out.packed == PACKED_LOST ? DCMI_LOST : DCMI_NOTHING;
         want_answer[3] = out.word;
-        samples_compared++;
     }
     const uint32_t got = direct() ? dcmi_sample_slices(g_device.at, lent_memory, length_of_memory, start, sample, lent)
                                   : dcmi_sample(g_device.at, or_null(lent_memory, length_of_memory), length_of_memory, start, sample, lent);
@@ -589,8 +462,6 @@ uint32_t check_run(size_t start, const uint32_t *samples, size_t count)
         want = model_run(&c, want_memory, length_of_memory, start, samples, count);
         model_to_image(&c, want_device);
     }
-    note_reasons(run_reasons(want, samples, count), want);
-    if (!want) samples_compared += count;
     uint32_t *lent = lend(&g_samples, samples, 4 * count);
     const uint32_t got = direct() ? dcmi_run_slices(g_device.at, lent_memory, length_of_memory, start, lent, count)
                                   : dcmi_run(g_device.at, or_null(lent_memory, length_of_memory), length_of_memory, start, or_null(lent, count), count);
@@ -607,11 +478,7 @@ uint32_t check_run_file(const uint8_t *file, size_t file_length, size_t start)
     camera c;
     const bool own = file_length <= MOST_FILE;
     const uint32_t want = model_run_file(&c, file, file_length, want_memory, length_of_memory, start);
-    if (!want) {
-        model_to_image(&c, want_device);
-        samples_compared += c.samples;
-    }
-    note_reasons(file_reasons(want), want);
+    if (!want) model_to_image(&c, want_device);
     uint8_t *lent = own ? lend(&g_file, file, file_length) : (uint8_t *)file;
     uint8_t *memory = lent_memory;
     const size_t length = length_of_memory;
@@ -664,13 +531,13 @@ uint32_t check_trace_write(const dcmi_writes *writes, const uint32_t *samples, s
     uint8_t *model_out = far_out ? want_memory : want_out;
     uint8_t *out = far_out ? lent_memory : lend_output(&g_out, want_out, length);
     const uint32_t want = model_trace_write(writes->count, writes->offset, writes->value, samples, count, model_out, length, &want_written);
-    note_reasons(writer_reasons(), want);
     uint32_t *lent = far_samples ? (uint32_t *)samples : lend(&g_samples, samples, 4 * count);
     const uint32_t got = call_writer(lent, out, written);
     if (!far_samples) take_back("samples", &g_samples, samples, 4 * count);
     compare_bytes("output buffer", model_out, out, compared);
     if (!far_out) compare_beside("output buffer", &g_out);
     compare_output("output written", &g_output, &want_written, sizeof want_written);
+    now.output = want_written;
     if (!want) {
         last_file = model_out;
         last_length = want_written;
@@ -690,7 +557,6 @@ uint32_t check_trace_item(const uint8_t *file, size_t length, size_t place, dcmi
     uint64_t want_item[4];
     dcmi_item *lent_item = lend_output(&g_output, want_item, sizeof want_item);
     const uint32_t want = model_trace_item(file, length, place, &found);
-    note_reasons(item_reasons(), want);
     if (!want) {
         want_item[0] = found.kind == ITEM_WRITE ? DCMI_WRITE : found.kind == ITEM_SAMPLE ? DCMI_SAMPLE : DCMI_END;
         want_item[1] = found.offset;
@@ -702,99 +568,16 @@ uint32_t check_trace_item(const uint8_t *file, size_t length, size_t place, dcmi
                                   : dcmi_trace_item(or_null(lent, length), length, place, lent_item);
     if (own) take_back("file", &g_file, file, length);
     compare_fields(name, want_item, 4);
+    now.output = want_item[0];
     if (item && !want) memcpy(item, g_output.at, sizeof *item);
     return finish(want, got);
 }
 
 /* ---- the summary ---- */
 
-/* The answers that each call must have given, bit by number. */
-static const uint16_t expected[CALLS] = {
-    [RESET] = 1 << 0,
-    [WRITE] = 1 << 0 | 1 << 1 | 1 << 2 | 1 << 3 | 1 << 4 | 1 << 5 | 1 << 6,
-    [READ] = 1 << 0 | 1 << 1 | 1 << 2 | 1 << 3,
-    [INTERRUPT] = 1 << 0 | 1 << 1,
-    [REARM] = 1 << 0 | 1 << 1,
-    [SAMPLE] = 1 << 0 | 1 << 1 | 1 << 7 | 1 << 8 | 1 << 9,
-    [RUN] = 1 << 0 | 1 << 1 | 1 << 7 | 1 << 8 | 1 << 9,
-    [RUN_FILE] = 1 << 0 | 1 << 2 | 1 << 3 | 1 << 4 | 1 << 5 | 1 << 6 | 1 << 7 | 1 << 9 | 1 << 10 | 1 << 11 | 1 << 12 | 1 << 13,
-    [TRACE_WRITE] = 1 << 0 | 1 << 7 | 1 << 12 | 1 << 14 | (uint16_t)(1u << 15),
-    [TRACE_ITEM] = 1 << 0 | 1 << 7 | 1 << 10 | 1 << 11 | 1 << 12 | 1 << 13,
-};
-
-static void print_reason(unsigned number, const char *before)
-{
-    if (number) printf("%s%u", before, number);
-    else printf("%sw", before);
-}
-
-static void print_count(uint64_t count)
-{
-    if (count) printf(": %" PRIu64, count);
-    else printf(": NEVER");
-}
-
-static bool answers_summary(void)
-{
-    bool complete = true;
-    uint64_t all = 0;
-    printf("Calls compared, by answer:\n");
-    for (unsigned call = 0; call < CALLS; call++) {
-        uint64_t calls = 0;
-        for (unsigned n = 0; n < 16; n++) calls += answers[call][n];
-        all += calls;
-        printf("  %-17s %9" PRIu64 ":", call_name[call], calls);
-        for (unsigned n = 0; n < 16; n++) {
-            const bool due = expected[call] >> n & 1, seen = answers[call][n];
-            if (!due && !seen) continue;
-            printf(" %u", n);
-            print_count(answers[call][n]);
-            complete &= due && seen;
-        }
-        printf("\n");
-    }
-    printf("  in all %" PRIu64 " calls, %" PRIu64 " accepted samples\n", all, samples_compared);
-    return complete;
-}
-
-static bool orders_summary(void)
-{
-    bool complete = true;
-    printf("Two reasons for a refusal at once, the first one answered (w: a refused write of a file):\n");
-    for (unsigned call = 0; call < CALLS; call++) {
-        if (!order[call].count) continue;
-        printf("  %-17s", call_name[call]);
-        for (unsigned i = 0; i < order[call].count; i++) {
-            for (unsigned j = i + 1; j < order[call].count; j++) {
-                if (order[call].never[i] >> j & 1) continue;
-                print_reason(order[call].number[i], " ");
-                print_reason(order[call].number[j], "<");
-                print_count(together[call][i][j]);
-                complete &= together[call][i][j] != 0;
-            }
-        }
-        printf("\n");
-    }
-    return complete;
-}
-
-static bool branches_summary(void)
-{
-#define BRANCH_TEXT(name, text) text,
-    static const char *const branch[BRANCHES] = { MODEL_BRANCHES(BRANCH_TEXT) };
-#undef BRANCH_TEXT
-    bool complete = true;
-    printf("Branches of the model:\n");
-    for (unsigned i = 0; i < BRANCHES; i++) {
-        printf("  %-66s %10" PRIu64 "%s\n", branch[i], model_hits[i], model_hits[i] ? "" : " NEVER");
-        complete &= model_hits[i] != 0;
-    }
-    return complete;
-}
-
 bool checked_summary(void)
 {
-    const bool answered = answers_summary(), ordered = orders_summary(), reached = branches_summary();
+    const bool complete = reached_summary();
     if (far_missing) printf("Memory of more than 4 GiB was not to be had: that part was left out.\n");
-    return answered && ordered && reached;
+    return complete;
 }

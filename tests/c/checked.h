@@ -1,5 +1,5 @@
 /* Each call of the library, made together with the model's and compared with it: the answer, the device image, every byte of the memory, every
- * output. A difference is reported with the seed and ends the program. */
+ * output. A difference is reported with the command that repeats the call, and ends the program. */
 #ifndef CHECKED_H
 #define CHECKED_H
 
@@ -21,10 +21,12 @@ typedef struct lending {
     bool read_only; /* const buffers are in read-only pages during the call */
 } lending;
 
-void checked_start(void);
-void checked_seed(uint64_t seed, lending how, uint64_t limit);
+void checked_start(const char *program);
 
-/* Whether the seed has calls left. */
+/* A seed: `limit` is how many calls are enough; after call number `last` the program ends, where it is not 0. */
+void checked_seed(uint64_t seed, lending how, uint64_t limit, uint64_t last);
+
+/* Whether the seed is to make further calls. */
 bool more(void);
 
 /* The device, and the memory from here on. Both sides hold the same. */

@@ -2,7 +2,7 @@
  *
  *   compare               the paper's examples, then every seed; prints what was compared and reached
  *   compare SEED          one seed alone
- *   compare SEED CALLS    its first calls only
+ *   compare SEED CALLS    its first calls only: what a difference prints as the command to make it again
  *
  * The exit status is 0 if nothing differs and everything expected was reached. */
 #include <inttypes.h>
@@ -730,28 +730,26 @@ static void writer_kind(void)
 /* ---- seeds ---- */
 
 static const struct {
-    const char *name;
     void (*run)(void);
-    uint64_t calls;
+    uint64_t calls; /* enough for a seed */
 } kinds[] = {
-    { "camera", camera_kind, 100000 },
-    { "random", random_kind, 50000 },
-    { "images", images_kind, 50000 },
-    { "limits", limits_kind, 20000 },
-    { "files", files_kind, 20000 },
-    { "writer", writer_kind, 20000 },
+    { camera_kind, 100000 }, { random_kind, 50000 }, { images_kind, 50000 },
+    { limits_kind, 20000 }, { files_kind, 20000 }, { writer_kind, 20000 },
 };
 
 enum { KINDS = sizeof kinds / sizeof *kinds, ROUNDS = 48, SEEDS = 1 + ROUNDS * KINDS };
 
-/* Seed 0 is the paper's examples. The others go through the kinds, with the buffers lent in a different way each round. */
-static void run_seed(uint64_t seed, uint64_t calls)
+/* Seed 0 is the paper's examples. The others go through the kinds, with the buffers lent in a different way each round. A seed makes the same calls
+ * alone as among the others: nothing is left of an earlier one. */
+static void run_seed(uint64_t seed, uint64_t last)
 {
     const uint64_t round = seed ? (seed - 1) / KINDS : 0;
     const unsigned kind = seed ? (unsigned)((seed - 1) % KINDS) : 0;
     const lending how = { .at_end = round % 2 == 0, .read_only = round % 8 < 2 };
     random_seed(seed);
-    checked_seed(seed, how, calls ? calls : kinds[kind].calls);
+    memset(&t, 0, sizeof t);
+    memset(file, 0, sizeof file);
+    checked_seed(seed, how, kinds[kind].calls, last);
     if (seed) kinds[kind].run();
     else paper_examples();
 }
@@ -759,7 +757,7 @@ static void run_seed(uint64_t seed, uint64_t calls)
 static int run_one(const char *seed, const char *calls)
 {
     run_seed(strtoull(seed, NULL, 10), calls ? strtoull(calls, NULL, 10) : 0);
-    printf("seed %s: no difference\n", seed);
+    printf("seed %s: no difference in all its calls\n", seed);
     return 0;
 }
 
@@ -774,6 +772,6 @@ static int run_all(void)
 int main(int count, char **arguments)
 {
     setvbuf(stdout, NULL, _IOLBF, 0);
-    checked_start();
+    checked_start(arguments[0]);
     return count > 1 ? run_one(arguments[1], count > 2 ? arguments[2] : NULL) : run_all();
 }

@@ -7,15 +7,22 @@
 #include <stddef.h>
 #include <stdint.h>
 
+/* Bits of CR and of RIS. */
+enum { CAPTURE = 1 << 0, CM = 1 << 1, CROP = 1 << 2, JPEG = 1 << 3, ESS = 1 << 4, PCKPOL = 1 << 5, HSPOL = 1 << 6, VSPOL = 1 << 7, ENABLE = 1 << 14 };
+enum { F_FRAME = 1 << 0, F_OVR = 1 << 1, F_ERR = 1 << 2, F_VSYNC = 1 << 3, F_LINE = 1 << 4 };
+
+/* Bits of the remembered levels and blankings, in a sample's order. */
+enum { HSYNC = 1 << 0, VSYNC = 1 << 1, CLOCK = 1 << 2 };
+
 typedef enum { FRAME_CLOSED, FRAME_UNTAKEN, FRAME_TAKEN } frame_state;
 
 typedef struct camera {
     uint32_t cr, ris, ier, cwstrt, cwsize;
-    uint32_t pins;                /* levels at the last sample: bit 0 HSYNC, 1 VSYNC, 2 clock */
-    uint32_t blanked;             /* which syncs blanked at the last working edge: bit 0 HSYNC, 1 VSYNC */
+    uint32_t pins;                /* levels at the last sample: HSYNC, VSYNC, CLOCK */
+    uint32_t blanked;             /* which syncs blanked at the last working edge: HSYNC, VSYNC */
     frame_state frame;
     uint32_t lines, pixels;       /* lines begun in the open frame, pixels of the last one */
-    uint32_t rate;                /* the rate counter: frames started, modulo 1, 2 or 4 */
+    uint32_t rate;                /* the rate counter */
     uint32_t data, partial;       /* the partial word: how many data, and their bits */
     uint32_t fifo[4], held;       /* held words, oldest first, then zeros */
     uint32_t place;               /* number of the next word to land */
@@ -42,10 +49,6 @@ typedef struct trace_item {
     size_t next;
 } trace_item;
 
-/* A device image of the C interface as a camera; false if the image encodes none. And back. */
-bool model_from_image(camera *c, const uint32_t *image);
-void model_to_image(const camera *c, uint32_t *image);
-
 /* The calls. Each answers 0 or a refusal number; a refusal changes nothing. */
 void model_reset(camera *c);
 uint32_t model_write(camera *c, uint32_t offset, uint32_t value);
@@ -58,5 +61,9 @@ uint32_t model_run_file(camera *c, const uint8_t *file, size_t file_length, uint
 uint32_t model_trace_write(size_t writes, const uint8_t *offsets, const uint32_t *values, const uint32_t *samples, size_t count, uint8_t *out,
                            size_t length, size_t *written);
 uint32_t model_trace_item(const uint8_t *file, size_t length, size_t place, trace_item *item);
+
+/* A device image of the C interface as a camera; false if the image encodes none. And back. */
+bool model_from_image(camera *c, const uint32_t *image);
+void model_to_image(const camera *c, uint32_t *image);
 
 #endif

@@ -1,0 +1,720 @@
+#include "reached.h"
+
+#include <inttypes.h>
+#include <stdio.h>
+#include <string.h>
+
+#include "model.h"
+
+const char *const call_name[CALLS] = {
+    "dcmi_reset", "dcmi_write", "dcmi_read", "dcmi_interrupt", "dcmi_rearm", "dcmi_sample", "dcmi_run", "dcmi_run_file", "dcmi_trace_write",
+    "dcmi_trace_item",
+};
+
+/* ---- what is to be reached ---- */
+
+#define BRANCHES(X) \
+    X(R1_LANDED, "rule 1: a held word lands") \
+    X(R1_LANDED_CAPTURE_0, "rule 1: a held word lands while CAPTURE is 0") \
+    X(R1_NO_ROOM, "rule 1: granted, no room") \
+    X(R1_NONE_HELD, "rule 1: granted, no word held") \
+    X(R1_DISABLED, "rule 1: granted, ENABLE 0") \
+    X(R1_NO_GRANT, "rule 1: a word held, no grant") \
+    X(R2_FELL, "rule 2: working edge, falling clock") \
+    X(R2_ROSE, "rule 2: working edge, rising clock") \
+    X(R2_WRONG_EDGE, "rule 2: the other edge") \
+    X(R2_NO_EDGE, "rule 2: no edge") \
+    X(R2_DISABLED, "rule 2: the right edge, ENABLE 0") \
+    X(R3_VSYNC, "rule 3: VSYNC alone raised") \
+    X(R3_LINE, "rule 3: LINE alone raised") \
+    X(R3_BOTH, "rule 3: VSYNC and LINE raised at once") \
+    X(R3_CAPTURE_0, "rule 3: a flag raised while CAPTURE is 0") \
+    X(R3_STILL, "rule 3: both syncs blank as before") \
+    X(R4_TAKEN, "rule 4: end of a taken frame, CM 0, FRAME raised") \
+    X(R4_SNAPSHOT, "rule 4: end of a taken frame, CM 1, CAPTURE cleared") \
+    X(R4_UNTAKEN, "rule 4: end of an untaken frame, FRAME stays 0") \
+    X(R4_PARTIAL, "rule 4: a partial word dropped") \
+    X(R4_NONE_OPEN, "rule 4: VSYNC blanks, no frame open") \
+    X(R5_TAKEN, "rule 5: start of a taken frame, CM 0") \
+    X(R5_UNTAKEN, "rule 5: start of an untaken frame") \
+    X(R5_SNAPSHOT, "rule 5: start of a taken frame, CM 1") \
+    X(R5_SNAPSHOT_RATE, "rule 5: CM 1, rate counter above 0") \
+    X(R5_EVERY, "rule 5: rate counter modulo 1") \
+    X(R5_WRAP_2, "rule 5: rate counter wraps at 2") \
+    X(R5_WRAP_4, "rule 5: rate counter wraps at 4") \
+    X(R5_UP, "rule 5: rate counter goes up") \
+    X(R5_CAPTURE_0, "rule 5: VSYNC ends, CAPTURE 0") \
+    X(R5_NO_BLANK, "rule 5: not blanking, but no frame has started") \
+    X(R6_HSYNC, "rule 6: HSYNC blanks in an open frame") \
+    X(R6_FIRST_LINE, "rule 6: the first line begins, HSYNC did not blank") \
+    X(R6_BLANKED, "rule 6: a line begins after HSYNC blanked") \
+    X(R6_GOES_ON, "rule 6: the line goes on") \
+    X(R6_AT_START, "rule 6: the frame's first edge carries a pixel") \
+    X(R6_UNTAKEN, "rule 6: a pixel of an untaken frame") \
+    X(R7_NO_CROP, "rule 7: CROP 0") \
+    X(R7_LINE_BEFORE, "rule 7: line before the window") \
+    X(R7_LINE_AFTER, "rule 7: line after the window") \
+    X(R7_COLUMN_BEFORE, "rule 7: column before the window") \
+    X(R7_COLUMN_AFTER, "rule 7: column after the window") \
+    X(R7_CORNER_FIRST, "rule 7: the window's first pixel") \
+    X(R7_CORNER_LAST, "rule 7: the window's last pixel") \
+    X(R7_INSIDE, "rule 7: inside the window") \
+    X(R8_PART_8, "rule 8: 8 bits, not yet full") \
+    X(R8_PART_10, "rule 8: 10 bits, not yet full") \
+    X(R8_PART_12, "rule 8: 12 bits, not yet full") \
+    X(R8_PART_14, "rule 8: 14 bits, not yet full") \
+    X(R8_FULL_8, "rule 8: 8 bits, full word") \
+    X(R8_FULL_10, "rule 8: 10 bits, full word") \
+    X(R8_FULL_12, "rule 8: 12 bits, full word") \
+    X(R8_FULL_14, "rule 8: 14 bits, full word") \
+    X(R8_ACROSS, "rule 8: a line's first pixel goes on with a partial word") \
+    X(R9_HELD_0, "rule 9: held, none before") \
+    X(R9_HELD_1, "rule 9: held, one before") \
+    X(R9_HELD_2, "rule 9: held, two before") \
+    X(R9_HELD_3, "rule 9: held, three before") \
+    X(R9_AFTER_GRANT, "rule 9: held because the same sample's grant made room") \
+    X(R9_OVERRUN, "rule 9: overrun, CM 0") \
+    X(R9_OVERRUN_SNAPSHOT, "rule 9: overrun, CM 1, CAPTURE cleared") \
+    X(CR_SAME, "CR: the value it holds") \
+    X(CR_DISABLED, "CR: written while disabled, stays so") \
+    X(CR_ENABLE, "CR: ENABLE rises") \
+    X(CR_ENABLE_BLANKED, "CR: ENABLE rises, a sync was remembered as blanking") \
+    X(CR_DISABLE, "CR: ENABLE falls") \
+    X(CR_DISABLE_HELD, "CR: ENABLE falls, held words discarded") \
+    X(CR_DISABLE_PARTIAL, "CR: ENABLE falls, partial word dropped") \
+    X(CR_DISABLE_TAKEN, "CR: ENABLE falls in a taken frame") \
+    X(CR_DISABLE_UNTAKEN, "CR: ENABLE falls in an untaken frame") \
+    X(CR_DISABLE_RATE, "CR: ENABLE falls, rate counter above 0") \
+    X(CR_CAPTURE_OUTSIDE, "CR: CAPTURE rises outside a frame, rate counter above 0") \
+    X(CR_CAPTURE_INSIDE, "CR: CAPTURE rises inside a frame, rate counter above 0") \
+    X(CR_CAPTURE_CLEARED, "CR: CAPTURE cleared inside a frame") \
+    X(CR_CAPTURE_CLEARED_OUTSIDE, "CR: CAPTURE cleared outside a frame") \
+    X(ICR_CLEARS, "ICR: clears a raised flag") \
+    X(ICR_CLEARS_NONE, "ICR: clears nothing") \
+    X(IER_WRITE, "IER: changed") \
+    X(CWSTRT_WRITE, "CWSTRT: changed") \
+    X(CWSIZE_WRITE, "CWSIZE: changed") \
+    X(READ_FNE, "SR: FNE 1") \
+    X(READ_HSYNC, "SR: HSYNC 1, VSYNC 0") \
+    X(READ_VSYNC, "SR: VSYNC 1, HSYNC 0") \
+    X(READ_MIS, "MIS: not 0, and not RIS") \
+    X(LINE_UP, "interrupt line up") \
+    X(LINE_MASKED, "interrupt line down, RIS not 0") \
+    X(REARM_BACK, "re-arming: place above 0") \
+    X(NO_LEVEL, "image: a pin level above 1, and nothing else") \
+    X(NO_BLANK, "image: a remembered blanking above 1, and nothing else") \
+    X(NO_FRAME, "image: frame above 2, and nothing else") \
+    X(NO_LINES, "image: lines in a closed frame, and nothing else") \
+    X(NO_PIXELS, "image: pixels in a closed frame, and nothing else") \
+    X(M_HELD, "malformed: more than four held, and nothing else") \
+    X(M_SLOT, "malformed: an unused slot not 0, and nothing else") \
+    X(M_PARTIAL, "malformed: unused partial bits not 0, and nothing else") \
+    X(M_DATA, "malformed: as many partial data as a full word, and nothing else") \
+    X(M_CR_RESERVED, "malformed: reserved bit of CR, and nothing else") \
+    X(M_CR, "malformed: CR contents of refusal 5, and nothing else") \
+    X(M_CWSTRT, "malformed: reserved bit of CWSTRT, and nothing else") \
+    X(M_CWSIZE, "malformed: reserved bit of CWSIZE, and nothing else") \
+    X(M_RIS, "malformed: RIS above 31, and nothing else") \
+    X(M_IER, "malformed: IER above 31, and nothing else") \
+    X(M_OFF_FRAME, "malformed: a frame open, ENABLE 0, and nothing else") \
+    X(M_OFF_HELD, "malformed: a held word, ENABLE 0, and nothing else") \
+    X(M_OFF_PARTIAL, "malformed: a partial word, ENABLE 0") \
+    X(M_OFF_RATE, "malformed: rate counter above 0, ENABLE 0, and nothing else") \
+    X(M_UNTAKEN, "malformed: a partial word outside a taken frame, and nothing else") \
+    X(M_RATE, "malformed: rate counter not below its modulus, and nothing else") \
+    X(M_LINES, "malformed: lines above samples, and nothing else") \
+    X(M_PIXELS, "malformed: pixels above samples, and nothing else") \
+    X(M_COMPLETED, "malformed: completed above samples, and nothing else") \
+    X(M_PLACE, "malformed: place above landed, and nothing else") \
+    X(M_EQUATION, "malformed: equation of counts, and nothing else") \
+    X(FILE_SHORT, "file: fewer than 8 bytes") \
+    X(FILE_LENGTH, "file: length not as the header says") \
+    X(FILE_WRITE, "file: a write refused after an accepted one") \
+    X(FILE_RUN, "file: run") \
+    X(FILE_EMPTY, "file: run, no writes, no samples") \
+    X(FILE_FULL, "file: run, 255 writes, 16,384 samples") \
+    X(AT_WRITE, "item: a write") \
+    X(AT_SAMPLE, "item: a sample") \
+    X(AT_END, "item: the end") \
+    X(WRITER_EXACT, "writer: the output fills the buffer") \
+    X(WRITER_LONGER, "writer: bytes after the output stay") \
+    X(WRITER_FULL, "writer: 255 writes, 16,384 samples")
+
+#define BRANCH_NAME(name, text) name,
+typedef enum { BRANCHES(BRANCH_NAME) BRANCH_COUNT } branch;
+#undef BRANCH_NAME
+
+enum { FIRST_FAULT = NO_LEVEL, FAULTS = M_EQUATION + 1 - NO_LEVEL };
+
+static uint64_t hits[BRANCH_COUNT];
+
+static inline void seen(bool holds, branch which) { hits[which] += holds; }
+
+static inline uint32_t fcrc(uint32_t cr) { return cr >> 8 & 3; }
+static inline uint32_t edm(uint32_t cr) { return cr >> 10 & 3; }
+
+/* ---- one sample ---- */
+
+/* Rules 8 and 9, of a captured pixel. */
+static void reached_word(const camera *before, const camera *after, bool line_begins)
+{
+    const bool full = after->completed != before->completed, landed = after->landed != before->landed, lost = after->discarded != before->discarded;
+    const uint32_t cleared = before->cr & ~after->cr;
+    seen(!full, R8_PART_8 + edm(before->cr));
+    seen(full, R8_FULL_8 + edm(before->cr));
+    seen(line_begins && before->data, R8_ACROSS);
+    if (!full) return;
+    if (!lost) hits[R9_HELD_0 + before->held - landed]++;
+    seen(!lost && landed && before->held == 4, R9_AFTER_GRANT);
+    seen(lost && !(before->cr & CM), R9_OVERRUN);
+    seen(lost && (cleared & CAPTURE), R9_OVERRUN_SNAPSHOT);
+}
+
+/* Rules 6 and 7, of a pixel: at a working edge in a frame that was open or starts, with no sync blanking. */
+static void reached_pixel(const camera *before, const camera *after)
+{
+    const bool blanked = before->blanked & HSYNC, begins = blanked || before->lines == 0;
+    seen(blanked, R6_BLANKED);
+    seen(begins && !blanked, R6_FIRST_LINE);
+    seen(!begins, R6_GOES_ON);
+    seen(before->frame == FRAME_CLOSED, R6_AT_START);
+    seen(after->frame == FRAME_UNTAKEN, R6_UNTAKEN);
+    if (after->frame == FRAME_UNTAKEN) return;
+
+    const bool captured = after->data != before->data || after->completed != before->completed, crop = before->cr & CROP;
+    const uint32_t line = before->lines - !begins, first_line = before->cwstrt >> 16, last_line = first_line + (before->cwsize >> 16);
+    const uint32_t column = begins ? 0 : before->pixels, first_column = before->cwstrt & 0x3FFF, last_column = first_column + (before->cwsize & 0x3FFF);
+    seen(captured && !crop, R7_NO_CROP);
+    seen(captured && crop, R7_INSIDE);
+    seen(captured && crop && line == first_line && column == first_column, R7_CORNER_FIRST);
+    seen(captured && crop && line == last_line && column == last_column, R7_CORNER_LAST);
+    seen(!captured && line < first_line, R7_LINE_BEFORE);
+    seen(!captured && line > last_line, R7_LINE_AFTER);
+    seen(!captured && first_line <= line && line <= last_line && column < first_column, R7_COLUMN_BEFORE);
+    seen(!captured && first_line <= line && line <= last_line && column > last_column, R7_COLUMN_AFTER);
+    if (captured) reached_word(before, after, begins);
+}
+
+/* Rules 3 to 5, and on to a pixel: a working edge with ENABLE 1. */
+static void reached_edge(const camera *before, const camera *after)
+{
+    const uint32_t blanks = after->blanked, begins = blanks & ~before->blanked, ends = before->blanked & ~blanks, raised = after->ris & ~before->ris;
+    const bool closed = before->frame == FRAME_CLOSED, cm = before->cr & CM;
+    seen(begins == VSYNC && (raised & F_VSYNC), R3_VSYNC);
+    seen(begins == HSYNC && (raised & F_LINE), R3_LINE);
+    seen((raised & F_VSYNC) && (raised & F_LINE), R3_BOTH);
+    seen((raised & (F_VSYNC | F_LINE)) && !(before->cr & CAPTURE), R3_CAPTURE_0);
+    seen(blanks == (HSYNC | VSYNC) && !begins, R3_STILL);
+
+    if (blanks & VSYNC) {
+        seen(closed, R4_NONE_OPEN);
+        seen(before->frame == FRAME_TAKEN && !cm && (raised & F_FRAME), R4_TAKEN);
+        seen(before->frame == FRAME_TAKEN && cm && (before->cr & ~after->cr & CAPTURE), R4_SNAPSHOT);
+        seen(before->frame == FRAME_UNTAKEN && !(after->ris & F_FRAME), R4_UNTAKEN);
+        seen(before->data, R4_PARTIAL);
+        return;
+    }
+
+    const bool started = closed && after->frame != FRAME_CLOSED;
+    seen(started && !cm && after->frame == FRAME_TAKEN, R5_TAKEN);
+    seen(started && after->frame == FRAME_UNTAKEN, R5_UNTAKEN);
+    seen(started && cm, R5_SNAPSHOT);
+    seen(started && cm && before->rate, R5_SNAPSHOT_RATE);
+    seen(started && !cm && fcrc(before->cr) == 0, R5_EVERY);
+    seen(started && fcrc(before->cr) == 1 && before->rate == 1 && after->rate == 0, R5_WRAP_2);
+    seen(started && fcrc(before->cr) == 2 && before->rate == 3 && after->rate == 0, R5_WRAP_4);
+    seen(started && after->rate > before->rate, R5_UP);
+    seen(closed && (ends & VSYNC) && !(before->cr & CAPTURE), R5_CAPTURE_0);
+    seen(closed && !(ends & VSYNC), R5_NO_BLANK);
+
+    if (closed && !started) return;
+    seen(blanks & HSYNC, R6_HSYNC);
+    if (!blanks) reached_pixel(before, after);
+}
+
+/* An accepted sample. */
+static void reached_sample(const camera *before, uint32_t sample, const camera *after)
+{
+    const bool enabled = before->cr & ENABLE, granted = sample >> 17 & 1, landed = after->landed != before->landed;
+    seen(landed, R1_LANDED);
+    seen(landed && !(before->cr & CAPTURE), R1_LANDED_CAPTURE_0);
+    seen(granted && enabled && before->held && !landed, R1_NO_ROOM);
+    seen(granted && enabled && !before->held, R1_NONE_HELD);
+    seen(granted && !enabled, R1_DISABLED);
+    seen(!granted && before->held, R1_NO_GRANT);
+
+    const bool was_high = before->pins & CLOCK, high = sample >> 16 & 1, edge = high != was_high, right = high == (bool)(before->cr & PCKPOL);
+    seen(!edge, R2_NO_EDGE);
+    seen(edge && !right, R2_WRONG_EDGE);
+    seen(edge && right && !enabled, R2_DISABLED);
+    seen(edge && right && enabled && high, R2_ROSE);
+    seen(edge && right && enabled && !high, R2_FELL);
+    if (edge && right && enabled) reached_edge(before, after);
+}
+
+/* ---- register calls, the line, re-arming ---- */
+
+static void reached_cr(const camera *before, const camera *after)
+{
+    const uint32_t rises = after->cr & ~before->cr, falls = before->cr & ~after->cr;
+    const bool open = before->frame != FRAME_CLOSED, disabled = falls & ENABLE;
+    seen(after->cr == before->cr, CR_SAME);
+    seen(after->cr != before->cr && !((after->cr | before->cr) & ENABLE), CR_DISABLED);
+    seen(rises & ENABLE, CR_ENABLE);
+    seen((rises & ENABLE) && before->blanked && !after->blanked, CR_ENABLE_BLANKED);
+    seen(disabled, CR_DISABLE);
+    seen(disabled && after->discarded != before->discarded, CR_DISABLE_HELD);
+    seen(disabled && before->data && !after->data, CR_DISABLE_PARTIAL);
+    seen(disabled && before->frame == FRAME_TAKEN, CR_DISABLE_TAKEN);
+    seen(disabled && before->frame == FRAME_UNTAKEN, CR_DISABLE_UNTAKEN);
+    seen(disabled && before->rate && !after->rate, CR_DISABLE_RATE);
+    seen((rises & CAPTURE) && !open && before->rate && !after->rate, CR_CAPTURE_OUTSIDE);
+    seen((rises & CAPTURE) && open && before->rate && after->rate, CR_CAPTURE_INSIDE);
+    seen((falls & CAPTURE) && !disabled && open && after->frame == before->frame, CR_CAPTURE_CLEARED);
+    seen((falls & CAPTURE) && !disabled && !open, CR_CAPTURE_CLEARED_OUTSIDE);
+}
+
+/* An accepted write. */
+static void reached_write(const camera *before, uint32_t offset, const camera *after)
+{
+    switch (offset) {
+    case DCMI_CR: reached_cr(before, after); break;
+    case DCMI_ICR:
+        seen(after->ris != before->ris, ICR_CLEARS);
+        seen(after->ris == before->ris, ICR_CLEARS_NONE);
+        break;
+    case DCMI_IER: seen(after->ier != before->ier, IER_WRITE); break;
+    case DCMI_CWSTRT: seen(after->cwstrt != before->cwstrt, CWSTRT_WRITE); break;
+    case DCMI_CWSIZE: seen(after->cwsize != before->cwsize, CWSIZE_WRITE); break;
+    }
+}
+
+static void reached_read(const call *made)
+{
+    if (made->offset == DCMI_SR) {
+        seen(made->output & 4, READ_FNE);
+        seen((made->output & 3) == 1, READ_HSYNC);
+        seen((made->output & 3) == 2, READ_VSYNC);
+    }
+    seen(made->offset == DCMI_MIS && made->output && made->output != made->before[DCMI_W_RIS], READ_MIS);
+}
+
+/* ---- images and malformed devices ---- */
+
+/* The bits that are not reserved; RIS, IER and ICR have the same. */
+static uint32_t bits_of(uint32_t offset)
+{
+    return offset == DCMI_CR ? 0x4FFF : offset == DCMI_CWSTRT ? 0x1FFF3FFF : offset == DCMI_CWSIZE ? 0x3FFF3FFF : 0x1F;
+}
+
+/* CR contents of refusal 5. */
+static bool unsupported(uint32_t cr) { return (cr & (JPEG | ESS)) || fcrc(cr) == 3 || (cr & (CAPTURE | ENABLE)) == CAPTURE; }
+
+static inline uint64_t fault(bool holds, branch which) { return (uint64_t)holds << (which - FIRST_FAULT); }
+
+/* What makes an image one of no device. */
+static uint64_t image_faults(const uint32_t *w)
+{
+    const bool closed = w[DCMI_W_FRAME] == 0;
+    return fault(w[DCMI_W_HSYNC] > 1 || w[DCMI_W_VSYNC] > 1 || w[DCMI_W_CLOCK] > 1, NO_LEVEL)
+         | fault(w[DCMI_W_HSYNC_BLANKED] > 1 || w[DCMI_W_VSYNC_BLANKED] > 1, NO_BLANK)
+         | fault(w[DCMI_W_FRAME] > 2, NO_FRAME)
+         | fault(closed && w[DCMI_W_LINES], NO_LINES)
+         | fault(closed && w[DCMI_W_PIXELS], NO_PIXELS);
+}
+
+/* What makes a device malformed. */
+static uint64_t device_faults(const uint32_t *w)
+{
+    const uint32_t cr = w[DCMI_W_CR], held = w[DCMI_W_HELD], data = w[DCMI_W_PARTIAL_COUNT], most = w[DCMI_W_SAMPLES];
+    const uint32_t full = edm(cr) ? 2 : 4, used = data * (8 + 2 * edm(cr));
+    const bool off = !(cr & ENABLE);
+    bool slot = false;
+    for (uint32_t i = held; i < 4; i++) slot |= w[DCMI_W_SLOT + i] != 0;
+    return fault(held > 4, M_HELD)
+         | fault(slot, M_SLOT)
+         | fault(data < full && w[DCMI_W_PARTIAL_BITS] >> used, M_PARTIAL)
+         | fault(data >= full, M_DATA)
+         | fault(cr & ~bits_of(DCMI_CR), M_CR_RESERVED)
+         | fault(unsupported(cr), M_CR)
+         | fault(w[DCMI_W_CWSTRT] & ~bits_of(DCMI_CWSTRT), M_CWSTRT)
+         | fault(w[DCMI_W_CWSIZE] & ~bits_of(DCMI_CWSIZE), M_CWSIZE)
+         | fault(w[DCMI_W_RIS] > 31, M_RIS)
+         | fault(w[DCMI_W_IER] > 31, M_IER)
+         | fault(off && w[DCMI_W_FRAME], M_OFF_FRAME)
+         | fault(off && held, M_OFF_HELD)
+         | fault(off && data, M_OFF_PARTIAL)
+         | fault(off && w[DCMI_W_RATE], M_OFF_RATE)
+         | fault(data && w[DCMI_W_FRAME] != 2, M_UNTAKEN)
+         | fault(w[DCMI_W_RATE] >> fcrc(cr), M_RATE)
+         | fault(w[DCMI_W_LINES] > most, M_LINES)
+         | fault(w[DCMI_W_PIXELS] > most, M_PIXELS)
+         | fault(w[DCMI_W_COMPLETED] > most, M_COMPLETED)
+         | fault(w[DCMI_W_PLACE] > w[DCMI_W_LANDED], M_PLACE)
+         | fault(w[DCMI_W_COMPLETED] != (uint64_t)w[DCMI_W_LANDED] + held + w[DCMI_W_DISCARDED], M_EQUATION);
+}
+
+/* Whether an image is refused 1. A fault counts where it is the only one; a partial word with ENABLE 0 cannot be. */
+static bool reached_image(const uint32_t *image)
+{
+    uint64_t faults = image_faults(image);
+    if (!faults) faults = device_faults(image);
+    if (!faults) return false;
+    for (unsigned i = 0; i < FAULTS; i++) seen(faults == UINT64_C(1) << i, FIRST_FAULT + i);
+    seen(faults & fault(true, M_OFF_PARTIAL), M_OFF_PARTIAL);
+    return true;
+}
+
+/* ---- runs and files ---- */
+
+static uint64_t samples_made;
+
+/* The next sample of a run that was accepted; a word lands again where it landed. */
+static void walk_sample(camera *c, const call *made, uint32_t sample)
+{
+    const camera before = *c;
+    outcome unused;
+    model_sample(c, made->memory, made->memory_length, made->start, sample, &unused);
+    reached_sample(&before, sample, c);
+    samples_made++;
+}
+
+static bool walked_well(const camera *c, const call *made)
+{
+    uint32_t image[DCMI_WORDS];
+    model_to_image(c, image);
+    return memcmp(image, made->after, sizeof image) == 0;
+}
+
+/* Whether the samples of a run, one by one, come to the same device. */
+static bool reached_run(const call *made)
+{
+    camera c;
+    model_from_image(&c, made->before);
+    for (size_t i = 0; i < made->count; i++) walk_sample(&c, made, made->samples[i]);
+    return walked_well(&c, made);
+}
+
+static uint32_t number_at(const uint8_t *bytes, unsigned count)
+{
+    uint32_t value = 0;
+    while (count--) value = value << 8 | bytes[count];
+    return value;
+}
+
+/* The writes of a file up to the refused one; how many are accepted. */
+static unsigned walk_writes(camera *c, const uint8_t *file)
+{
+    for (unsigned i = 0; i < file[5]; i++) {
+        const uint8_t *at = file + 8 + 5 * i;
+        const camera before = *c;
+        if (model_write(c, at[0], number_at(at + 1, 4))) return i;
+        reached_write(&before, at[0], c);
+    }
+    return file[5];
+}
+
+/* Whether the writes and samples of a file, one by one, come to the same device. */
+static bool reached_file(const call *made)
+{
+    seen(made->answer == 13 && made->length < 8, FILE_SHORT);
+    seen(made->answer == 13 && made->length >= 8, FILE_LENGTH);
+    if (made->answer > 6) return true;
+    camera c;
+    model_reset(&c);
+    const unsigned writes = made->file[5], samples = number_at(made->file + 6, 2), accepted = walk_writes(&c, made->file);
+    seen(made->answer && accepted, FILE_WRITE);
+    if (made->answer) return accepted < writes;
+    for (unsigned i = 0; i < samples; i++) walk_sample(&c, made, number_at(made->file + 8 + 5 * writes + 3 * i, 3));
+    seen(true, FILE_RUN);
+    seen(writes == 0 && samples == 0, FILE_EMPTY);
+    seen(writes == 255 && samples == 16384, FILE_FULL);
+    return walked_well(&c, made);
+}
+
+static void reached_item(const call *made)
+{
+    seen(made->answer == 13 && made->length < 8, FILE_SHORT);
+    seen(made->answer == 13 && made->length >= 8, FILE_LENGTH);
+    if (made->answer) return;
+    seen(made->output == DCMI_WRITE, AT_WRITE);
+    seen(made->output == DCMI_SAMPLE, AT_SAMPLE);
+    seen(made->output == DCMI_END, AT_END);
+}
+
+static void reached_writer(const call *made)
+{
+    if (made->answer) return;
+    seen(made->output == made->length, WRITER_EXACT);
+    seen(made->output < made->length, WRITER_LONGER);
+    seen(made->writes->count == 255 && made->count == 16384, WRITER_FULL);
+}
+
+/* ---- the order of refusals ---- */
+
+enum { MOST_REASONS = 16 };
+
+/* The reasons for a refusal of each call, in the paper's order; 0 stands for the number of a refused write. */
+static const struct {
+    unsigned count;
+    uint8_t number[MOST_REASONS];
+    uint32_t never[MOST_REASONS]; /* bit j of entry i: reasons i and j cannot stand together */
+} order[CALLS] = {
+    [WRITE] = { 6, { 1, 2, 3, 4, 5, 6 }, { 0, 0x3C, 0x30 } },
+    [READ] = { 3, { 1, 2, 3 }, { 0, 0x4 } },
+    [INTERRUPT] = { 1, { 1 }, { 0 } },
+    [REARM] = { 1, { 1 }, { 0 } },
+    [SAMPLE] = { 4, { 1, 9, 7, 8 }, { 0 } },
+    [RUN] = { 4, { 1, 9, 7, 8 }, { 0 } },
+    [RUN_FILE] = { 8, { 13, 10, 11, 12, 13, 0, 9, 7 }, { 0xB8, 0x20, 0x20, 0x20, 0xA0 } },
+    [TRACE_WRITE] = { 4, { 14, 12, 7, 15 }, { 0 } },
+    [TRACE_ITEM] = { 6, { 13, 10, 11, 12, 13, 7 }, { 0x38, 0, 0, 0, 0x20 } },
+};
+
+static uint64_t answers[CALLS][REFUSAL_NUMBERS];
+static uint64_t together[CALLS][MOST_REASONS][MOST_REASONS]; /* calls with two reasons at once */
+
+static uint32_t reason(bool holds, unsigned at) { return (uint32_t)holds << at; }
+
+static uint32_t write_reasons(const call *made, bool malformed)
+{
+    const uint32_t offset = made->offset, value = made->value, cr = made->before[DCMI_W_CR];
+    const bool read_only = offset == DCMI_SR || offset == DCMI_RIS || offset == DCMI_MIS;
+    const bool window = offset == DCMI_CWSTRT || offset == DCMI_CWSIZE;
+    const bool known = read_only || window || offset == DCMI_CR || offset == DCMI_IER || offset == DCMI_ICR;
+    const bool change = (value ^ cr) & ~(uint32_t)(CAPTURE | ENABLE);
+    return reason(malformed, 0)
+         | reason(!known, 1)
+         | reason(read_only, 2)
+         | reason(known && (value & ~bits_of(offset)), 3)
+         | reason(offset == DCMI_CR && unsupported(value), 4)
+         | reason((cr & ENABLE) && (window || (offset == DCMI_CR && change)), 5);
+}
+
+static uint32_t read_reasons(const call *made, bool malformed)
+{
+    const bool known = made->offset % 4 == 0 && made->offset <= 0x24 && made->offset != 0x18 && made->offset != 0x1C;
+    return reason(malformed, 0) | reason(!known, 1) | reason(made->offset == DCMI_ICR, 2);
+}
+
+static bool has_bad(const uint32_t *samples, size_t count)
+{
+    uint32_t all = 0;
+    for (size_t i = 0; i < count; i++) all |= samples[i];
+    return all >> 18;
+}
+
+static uint32_t run_reasons(const call *made, bool malformed)
+{
+    const uint32_t *samples = made->kind == SAMPLE ? &made->value : made->samples;
+    const size_t count = made->kind == SAMPLE ? 1 : made->count;
+    return reason(malformed, 0)
+         | reason(made->start > made->memory_length, 1)
+         | reason(has_bad(samples, count), 2)
+         | reason(made->before[DCMI_W_SAMPLES] + (uint64_t)count > UINT32_MAX, 3);
+}
+
+/* The first five reasons of a file; *body is where its samples begin if its length is as it says, else 0. */
+static uint32_t header_reasons(const call *made, size_t *body, size_t *count)
+{
+    const uint8_t *file = made->file;
+    const size_t length = made->length;
+    *body = 0;
+    *count = length >= 8 ? number_at(file + 6, 2) : 0;
+    const size_t samples_at = length >= 8 ? 8 + 5u * file[5] : 0;
+    const bool as_said = length >= 8 && length == samples_at + 3 * *count;
+    if (as_said) *body = samples_at;
+    return reason(length < 8, 0)
+         | reason(length >= 3 && memcmp(file, "FGT", 3) != 0, 1)
+         | reason(length >= 5 && (file[3] != 1 || file[4] != 0), 2)
+         | reason(*count > 16384, 3)
+         | reason(length >= 8 && !as_said, 4);
+}
+
+static bool bad_at(const uint8_t *file, size_t body, size_t i) { return file[body + 3 * i + 2] > 3; }
+
+static uint32_t file_reasons(const call *made)
+{
+    size_t body, count;
+    bool bad = false;
+    const uint32_t header = header_reasons(made, &body, &count);
+    for (size_t i = 0; body && i < count && !bad; i++) bad = bad_at(made->file, body, i);
+    return header | reason(made->answer >= 2 && made->answer <= 6, 5) | reason(made->start > made->memory_length, 6) | reason(bad, 7);
+}
+
+static uint32_t item_reasons(const call *made)
+{
+    size_t body, count;
+    const uint32_t header = header_reasons(made, &body, &count);
+    const size_t writes = body ? made->file[5] : 0;
+    return header | reason(body && made->place >= writes && made->place - writes < count && bad_at(made->file, body, made->place - writes), 5);
+}
+
+/* Counts for which there are no arrays: nothing is looked at, and nothing fits. */
+static uint32_t writer_reasons(const call *made)
+{
+    const size_t writes = made->writes->count, many = (size_t)1 << 17;
+    return reason(writes > 255, 0)
+         | reason(made->count > 16384, 1)
+         | reason(made->count <= many && has_bad(made->samples, made->count), 2)
+         | reason(writes > many || made->count > many || 8 + 5 * writes + 3 * made->count > made->length, 3);
+}
+
+static uint32_t reasons_of(const call *made)
+{
+    const bool on_device = WRITE <= made->kind && made->kind <= RUN, malformed = on_device && reached_image(made->before);
+    switch (made->kind) {
+    case WRITE: return write_reasons(made, malformed);
+    case READ: return read_reasons(made, malformed);
+    case SAMPLE: case RUN: return run_reasons(made, malformed);
+    case RUN_FILE: return file_reasons(made);
+    case TRACE_WRITE: return writer_reasons(made);
+    case TRACE_ITEM: return item_reasons(made);
+    default: return reason(malformed, 0);
+    }
+}
+
+/* Counts the pairs of reasons that hold at once (bit i: reason i); whether the first was answered. */
+static bool reached_reasons(const call *made)
+{
+    const uint32_t reasons = reasons_of(made);
+    const unsigned count = order[made->kind].count;
+    unsigned first = 0;
+    while (first < count && !(reasons >> first & 1)) first++;
+    for (unsigned i = first; i < count; i++)
+        for (unsigned j = i + 1; j < count; j++)
+            if ((reasons >> i & 1) && (reasons >> j & 1)) together[made->kind][i][j]++;
+    if (first == count) return made->answer == 0;
+    const uint32_t number = order[made->kind].number[first];
+    return number ? made->answer == number : made->answer >= 2 && made->answer <= 6;
+}
+
+/* ---- a call ---- */
+
+static void reached_device(const call *made)
+{
+    camera before, after;
+    model_from_image(&before, made->before);
+    model_from_image(&after, made->after);
+    switch (made->kind) {
+    case WRITE: reached_write(&before, made->offset, &after); break;
+    case READ: reached_read(made); break;
+    case INTERRUPT:
+        seen(made->output, LINE_UP);
+        seen(!made->output && before.ris, LINE_MASKED);
+        break;
+    case REARM: seen(before.place && !after.place, REARM_BACK); break;
+    case SAMPLE:
+        reached_sample(&before, made->value, &after);
+        samples_made++;
+        break;
+    default: break;
+    }
+}
+
+const char *reached_call(const call *made)
+{
+    if (made->answer >= REFUSAL_NUMBERS) return "the answer is beyond the table of refusal numbers";
+    if (!reached_reasons(made)) return "the answer is not the first reason in the paper's order";
+    answers[made->kind][made->answer]++;
+    if (made->answer == 0 && made->kind < RUN) reached_device(made);
+    if (made->answer == 0 && made->kind == RUN && !reached_run(made)) return "the model's run is not its samples one by one";
+    if (made->kind == RUN_FILE && !reached_file(made)) return "the model's file is not its writes and samples one by one";
+    if (made->kind == TRACE_ITEM) reached_item(made);
+    if (made->kind == TRACE_WRITE) reached_writer(made);
+    return NULL;
+}
+
+/* ---- the summary ---- */
+
+#define ANSWER(number) (UINT32_C(1) << (number))
+
+/* The answers that each call must have given. */
+static const uint32_t expected[CALLS] = {
+    [RESET] = ANSWER(0),
+    [WRITE] = ANSWER(0) | ANSWER(1) | ANSWER(2) | ANSWER(3) | ANSWER(4) | ANSWER(5) | ANSWER(6),
+    [READ] = ANSWER(0) | ANSWER(1) | ANSWER(2) | ANSWER(3),
+    [INTERRUPT] = ANSWER(0) | ANSWER(1),
+    [REARM] = ANSWER(0) | ANSWER(1),
+    [SAMPLE] = ANSWER(0) | ANSWER(1) | ANSWER(7) | ANSWER(8) | ANSWER(9),
+    [RUN] = ANSWER(0) | ANSWER(1) | ANSWER(7) | ANSWER(8) | ANSWER(9),
+    [RUN_FILE] = ANSWER(0) | ANSWER(2) | ANSWER(3) | ANSWER(4) | ANSWER(5) | ANSWER(6) | ANSWER(7) | ANSWER(9) | ANSWER(10) | ANSWER(11) | ANSWER(12) | ANSWER(13),
+    [TRACE_WRITE] = ANSWER(0) | ANSWER(7) | ANSWER(12) | ANSWER(14) | ANSWER(15),
+    [TRACE_ITEM] = ANSWER(0) | ANSWER(7) | ANSWER(10) | ANSWER(11) | ANSWER(12) | ANSWER(13),
+};
+
+static void print_reason(unsigned number, const char *before)
+{
+    if (number) printf("%s%u", before, number);
+    else printf("%sw", before);
+}
+
+static void print_count(uint64_t count)
+{
+    if (count) printf(": %" PRIu64, count);
+    else printf(": NEVER");
+}
+
+static bool answers_summary(void)
+{
+    bool complete = true;
+    uint64_t all = 0;
+    printf("Calls compared, by answer:\n");
+    for (unsigned kind = 0; kind < CALLS; kind++) {
+        uint64_t calls = 0;
+        for (unsigned n = 0; n < REFUSAL_NUMBERS; n++) calls += answers[kind][n];
+        all += calls;
+        printf("  %-17s %9" PRIu64 ":", call_name[kind], calls);
+        for (unsigned n = 0; n < REFUSAL_NUMBERS; n++) {
+            const bool due = expected[kind] >> n & 1, given = answers[kind][n];
+            if (!due && !given) continue;
+            printf(" %u", n);
+            print_count(answers[kind][n]);
+            complete &= due && given;
+        }
+        printf("\n");
+    }
+    printf("  in all %" PRIu64 " calls, %" PRIu64 " accepted samples\n", all, samples_made);
+    return complete;
+}
+
+static bool orders_summary(void)
+{
+    bool complete = true;
+    printf("Two reasons for a refusal at once, the first one answered (w: a refused write of a file):\n");
+    for (unsigned kind = 0; kind < CALLS; kind++) {
+        if (order[kind].count < 2) continue;
+        printf("  %-17s", call_name[kind]);
+        for (unsigned i = 0; i < order[kind].count; i++) {
+            for (unsigned j = i + 1; j < order[kind].count; j++) {
+                if (order[kind].never[i] >> j & 1) continue;
+                print_reason(order[kind].number[i], " ");
+                print_reason(order[kind].number[j], "<");
+                print_count(together[kind][i][j]);
+                complete &= together[kind][i][j] != 0;
+            }
+        }
+        printf("\n");
+    }
+    return complete;
+}
+
+static bool branches_summary(void)
+{
+#define BRANCH_TEXT(name, text) text,
+    static const char *const texts[BRANCH_COUNT] = { BRANCHES(BRANCH_TEXT) };
+#undef BRANCH_TEXT
+    bool complete = true;
+    printf("Reached:\n");
+    for (unsigned i = 0; i < BRANCH_COUNT; i++) {
+        printf("  %-68s %10" PRIu64 "%s\n", texts[i], hits[i], hits[i] ? "" : " NEVER");
+        complete &= hits[i] != 0;
+    }
+    return complete;
+}
+
+bool reached_summary(void)
+{
+    const bool answered = answers_summary(), ordered = orders_summary(), reached = branches_summary();
+    return answered && ordered && reached;
+}

@@ -1,0 +1,43 @@
+/* What the comparison has reached, told from outside the model: from the device before a call or a sample, what it was given, and the device and the
+ * answer after it. */
+#ifndef REACHED_H
+#define REACHED_H
+
+#include <stdbool.h>
+#include <stddef.h>
+#include <stdint.h>
+
+#include "dcmi.h"
+
+/* Places for refusal numbers in tables, 0 for none among them; a set of numbers is 32 bits. */
+enum { REFUSAL_NUMBERS = 32 };
+
+typedef enum { RESET, WRITE, READ, INTERRUPT, REARM, SAMPLE, RUN, RUN_FILE, TRACE_WRITE, TRACE_ITEM, CALLS } call_kind;
+
+extern const char *const call_name[CALLS];
+
+/* A call, as both sides made it. */
+typedef struct call {
+    call_kind kind;
+    uint64_t number;               /* counted from 1 in each seed */
+    uint32_t offset, value;        /* of a register; the value is a sample too */
+    size_t start, place;
+    const uint32_t *samples;
+    const uint8_t *file;
+    const dcmi_writes *writes;
+    size_t count, length;          /* of the samples; of the file or the writer's buffer */
+    uint8_t *memory;               /* the model's */
+    size_t memory_length;
+    uint32_t before[DCMI_WORDS];   /* the device */
+    uint32_t after[DCMI_WORDS];
+    uint32_t answer;
+    uint64_t output;               /* the value read, the line, the kind of the item, the length written */
+} call;
+
+/* Counts what a call reached; what is wrong with its answer, or a null pointer. */
+const char *reached_call(const call *made);
+
+/* Prints the counts; false if something that is expected was never reached. */
+bool reached_summary(void);
+
+#endif
