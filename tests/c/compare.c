@@ -311,6 +311,74 @@ static void camera_kind(void)
     while (more()) camera_history(between(10, 80));
 }
 
+/* ---- driver: the register calls of the Linux driver in its order, with a cropped picture ---- */
+
+/* It sets and clears bits by reading a register and writing it back. Of a register whose read is refused it has 0. */
+static void set_bits(uint32_t offset, uint32_t bits)
+{
+    uint32_t value = 0;
+    check_read(offset, &value);
+    check_write(offset, value | bits);
+}
+
+static void clear_bits(uint32_t offset, uint32_t bits)
+{
+    uint32_t value = 0;
+    check_read(offset, &value);
+    check_write(offset, value & ~bits);
+}
+
+static void driver_set_up(scene *s)
+{
+    const uint32_t cr = valid_cr() & ~UINT32_C(0x4005);
+    uint32_t cwstrt, cwsize;
+    scene_cropped(s, cr, &cwstrt, &cwsize);
+    check_write(DCMI_CR, cr);
+    check_write(DCMI_CWSIZE, cwsize);
+    check_write(DCMI_CWSTRT, cwstrt);
+    set_bits(DCMI_CR, 0x4);    /* CROP */
+    set_bits(DCMI_CR, 0x4000); /* ENABLE */
+    set_bits(DCMI_CR, 0x1);    /* CAPTURE */
+    set_bits(DCMI_IER, 0x7);   /* FRAME, OVR, ERR */
+}
+
+/* The flags are cleared by a write of ICR; the read before it is refused 3. A snapshot is followed by another, or the next buffer. */
+static void driver_interrupt(void)
+{
+    uint32_t raised = 0;
+    check_interrupt();
+    check_read(DCMI_MIS, &raised);
+    if (!raised) return;
+    set_bits(DCMI_ICR, 0x7);
+    if (!(cr_of_device() & 1)) set_bits(DCMI_CR, 0x1);
+    if (chance(1, 2)) check_rearm();
+}
+
+/* To clear ENABLE alone while CAPTURE is 1 is refused 5. */
+static void driver_stop(void)
+{
+    clear_bits(DCMI_IER, 0x7);
+    clear_bits(DCMI_CR, 0x4000);
+    clear_bits(DCMI_CR, 0x4001);
+}
+
+static void driver_kind(void)
+{
+    while (more()) {
+        scene s;
+        if (chance(1, 2)) check_reset();
+        lend_memory(between(256, 4096));
+        const size_t start = good_start();
+        driver_set_up(&s);
+        for (unsigned n = between(2, 20); n; n--) {
+            if (chance(1, 4)) singles(&s, start, between(1, 60));
+            else runs(&s, start, between(20, 400));
+            driver_interrupt();
+        }
+        driver_stop();
+    }
+}
+
 /* ---- random: samples and writes without a plan ---- */
 
 static void random_action(void)
@@ -733,7 +801,7 @@ static const struct {
     void (*run)(void);
     uint64_t calls; /* enough for a seed */
 } kinds[] = {
-    { camera_kind, 100000 }, { random_kind, 50000 }, { images_kind, 50000 },
+    { camera_kind, 100000 }, { driver_kind, 20000 }, { random_kind, 50000 }, { images_kind, 50000 },
     { limits_kind, 20000 }, { files_kind, 20000 }, { writer_kind, 20000 },
 };
 

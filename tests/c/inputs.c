@@ -53,6 +53,22 @@ void scene_make(scene *s, uint32_t cr)
     s->clock = below(s->vblank + s->height * (s->hblank + s->width));
 }
 
+void scene_cropped(scene *s, uint32_t cr, uint32_t *cwstrt, uint32_t *cwsize)
+{
+    *s = (scene){ .polarity = cr & 0xE0, .hold = 1 };
+    s->width = between(4, 24);
+    s->height = between(2, 8);
+    s->hblank = between(1, 4);
+    s->vblank = between(1, 4);
+    s->grant = between(64, 256);
+    s->pixels_first = chance(1, 2);
+    s->hsync_idle = chance(1, 2);
+    const uint32_t line = below(s->height), column = below(s->width);
+    *cwstrt = line << 16 | column;
+    *cwsize = below(s->height - line) << 16;
+    *cwsize |= below(s->width - column);
+}
+
 uint32_t scene_sample(scene *s)
 {
     const bool working = s->part >= s->hold;

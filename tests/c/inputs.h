@@ -29,6 +29,8 @@ typedef struct scene {
 } scene;
 
 void scene_make(scene *s, uint32_t cr);
+/* One whose picture has a window in it, and most of whose words find a grant. */
+void scene_cropped(scene *s, uint32_t cr, uint32_t *cwstrt, uint32_t *cwsize);
 uint32_t scene_sample(scene *s);
 void scene_samples(scene *s, uint32_t *samples, size_t count);
 

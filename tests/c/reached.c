@@ -101,6 +101,9 @@ const char *const call_name[CALLS] = {
     X(LINE_UP, "interrupt line up") \
     X(LINE_MASKED, "interrupt line down, RIS not 0") \
     X(REARM_BACK, "re-arming: place above 0") \
+    X(DRIVER_LANDED, "Linux driver, set up: a word of its cropped picture lands") \
+    X(DRIVER_FLAGS, "Linux driver, set up: read of ICR refused, then a flag cleared") \
+    X(DRIVER_STOP, "Linux driver, set up: ENABLE alone refused, then both cleared") \
     X(NO_LEVEL, "image: a pin level above 1, and nothing else") \
     X(NO_BLANK, "image: a remembered blanking above 1, and nothing else") \
     X(NO_FRAME, "image: frame above 2, and nothing else") \
@@ -297,6 +300,46 @@ static void reached_read(const call *made)
         seen((made->output & 3) == 2, READ_VSYNC);
     }
     seen(made->offset == DCMI_MIS && made->output && made->output != made->before[DCMI_W_RIS], READ_MIS);
+}
+
+/* ---- the Linux driver ---- */
+
+static bool wrote(const call *made, uint32_t offset) { return made->kind == WRITE && made->offset == offset && made->answer == 0; }
+
+/* Whether a call is the one that comes after so many of the driver's set-up. */
+static bool sets_up(const call *made, unsigned after)
+{
+    const uint32_t changes = made->before[DCMI_W_CR] ^ made->after[DCMI_W_CR];
+    switch (after) {
+    case 0: return wrote(made, DCMI_CR) && !(made->value & (ENABLE | CROP));
+    case 1: return wrote(made, DCMI_CWSIZE);
+    case 2: return wrote(made, DCMI_CWSTRT);
+    case 3: return wrote(made, DCMI_CR) && changes == CROP;
+    case 4: return wrote(made, DCMI_CR) && changes == ENABLE;
+    case 5: return wrote(made, DCMI_CR) && changes == CAPTURE;
+    default: return wrote(made, DCMI_IER);
+    }
+}
+
+/* Follows the calls of a seed; reads that are accepted may stand anywhere. */
+static void follow_driver(const call *made)
+{
+    enum { SET_UP = 7 };
+    static unsigned done;                      /* how many calls of the set-up; all, until the device is disabled */
+    static bool read_refused, disable_refused; /* what the last register call was */
+    const uint32_t cr = made->before[DCMI_W_CR], changes = cr ^ made->after[DCMI_W_CR];
+    if (made->number == 1 || made->kind == RESET || made->kind == RUN_FILE) done = 0;
+    if (made->kind == SAMPLE || made->kind == RUN) seen(done == SET_UP && made->after[DCMI_W_LANDED] != made->before[DCMI_W_LANDED], DRIVER_LANDED);
+    if (made->kind != WRITE && (made->kind != READ || made->answer == 0)) return;
+    if (done < SET_UP) {
+        done = sets_up(made, done) ? done + 1 : sets_up(made, 0) ? 1 : 0;
+    } else {
+        seen(read_refused && wrote(made, DCMI_ICR) && made->after[DCMI_W_RIS] != made->before[DCMI_W_RIS], DRIVER_FLAGS);
+        seen(disable_refused && wrote(made, DCMI_CR) && changes == (ENABLE | CAPTURE), DRIVER_STOP);
+        if (!(made->after[DCMI_W_CR] & ENABLE)) done = 0;
+    }
+    read_refused = made->kind == READ && made->offset == DCMI_ICR && made->answer == 3;
+    disable_refused = made->kind == WRITE && made->offset == DCMI_CR && made->answer == 5 && (cr ^ made->value) == ENABLE;
 }
 
 /* ---- images and malformed devices ---- */
@@ -617,6 +660,7 @@ const char *reached_call(const call *made)
     if (made->answer >= REFUSAL_NUMBERS) return "the answer is beyond the table of refusal numbers";
     if (!reached_reasons(made)) return "the answer is not the first reason in the paper's order";
     answers[made->kind][made->answer]++;
+    follow_driver(made);
     if (made->answer == 0 && made->kind < RUN) reached_device(made);
     if (made->answer == 0 && made->kind == RUN && !reached_run(made)) return "the model's run is not its samples one by one";
     if (made->kind == RUN_FILE && !reached_file(made)) return "the model's file is not its writes and samples one by one";
