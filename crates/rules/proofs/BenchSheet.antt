@@ -3,7 +3,8 @@
 --   mistakes    those of "Mistakes that look right" that the starred lines don't catch
 -- and what these leave open, since a definition changed together with its code would pass every other proof; each row says which sentence it is for:
 --   by-rule     cases of the same form, in the order of the rules
---   by-call     calls in a row, with what each tells: the register map, refusals, writing CR, single samples, memory
+--   by-register the register map
+--   by-call     calls in a row, with what each tells: registers, refusals, writing CR, single samples, memory
 --   judged      devices at the bounds of "Malformed means one of"
 -- and three facts that only the state shows.
 use mathlib.Core.Bool.{Bool, true, false, cond}
@@ -13,8 +14,11 @@ use mathlib.Core.Path.{_≡_, refl}
 use Prim.Native.Nat.{ℕ, zero, suc, _+_}
 use lib.Dec.{eqb}
 use lib.ListN.{drop, replicate}
-use Rattle.registers.specs.Map.{offset}
+use Rattle.registers.specs.Map.{offset, every, access, is-control, is-window, reserved, mask}
+use Rattle.registers.specs.declared.Register.{Register}
 use Rattle.registers.specs.declared.Register.the-variants.{Control, RawStatus, InterruptEnable, InterruptClear, WindowStart, WindowSize}
+use Rattle.registers.specs.declared.Access.{Access}
+use Rattle.registers.specs.declared.Access.the-variants.{ReadWrite, ReadOnly, WriteOnly}
 use Rattle.refusals.specs.Refusals as refusals
 use Rattle.output.specs.declared.Output.{Output}
 use Rattle.output.specs.Output.{OutputState, word-at}
@@ -24,7 +28,7 @@ use Rattle.rules.specs.declared.Frame.the-variants.{Closed, Open}
 use Rattle.rules.specs.declared.Registers.{Registers}
 use Rattle.rules.specs.declared.Capture.{Capture}
 use Rattle.rules.specs.declared.Device.{Device}
-use Rattle.rules.specs.State.{device, capture-of, output-of, fresh-capture, fresh, with-cr, with-ris, with-ier, with-cwstrt, with-cwsize, with-registers, with-frame, with-rate, with-partial}
+use Rattle.rules.specs.State.{device, capture-of, output-of, fresh-capture, fresh, with-cr, with-ris, with-ier, with-cwstrt, with-cwsize, with-registers, with-syncs, with-frame, with-rate, with-partial}
 use Rattle.rules.specs.Answers.{Changed}
 use Rattle.rules.specs.WellFormed.{malformed}
 use Rattle.rules.specs.RegisterCalls.{status, read, write, interrupt, rearm}
@@ -288,6 +292,33 @@ by-rule =
     case (CR ≔ 0x48E3 ∷ []) nine (CR ≔ 0x08E2 ∷ CWSTRT ≔ 0x10002 ∷ CR ≔ 0x4021 ∷ []) (leaves (0 ∷ 0 ∷ 0 ∷ 0 ∷ 0 ∷ []) [] 0 4 0x4021 0x18 3) ∷
     []
 
+-- By register. What the map has of one: offset, access kind, reserved bits as a mask, whether it is CR, and whether it is of the crop window.
+pub record Mapped : Type 0 where
+  pub offset : ℕ
+  pub access : Access
+  pub reserved : ℕ
+  pub control : Bool
+  pub window : Bool
+
+abbrev pub mapped : ℕ → Access → ℕ → Bool → Bool → Mapped
+mapped o a m c w = record { offset = o; access = a; reserved = m; control = c; window = w }
+
+abbrev pub map-of : Register → Mapped
+map-of r = mapped (offset r) (access r) (mask (reserved r)) (is-control r) (is-window r)
+
+-- "Registers", in the paper's order: CR, SR, RIS, IER, MIS, ICR, CWSTRT, CWSIZE.
+abbrev pub by-register : List Mapped
+by-register =
+    mapped 0x00 ReadWrite 0xFFFFB000 true false ∷
+    mapped 0x04 ReadOnly 0xFFFFFFF8 false false ∷
+    mapped 0x08 ReadOnly 0xFFFFFFE0 false false ∷
+    mapped 0x0C ReadWrite 0xFFFFFFE0 false false ∷
+    mapped 0x10 ReadOnly 0xFFFFFFE0 false false ∷
+    mapped 0x14 WriteOnly 0xFFFFFFE0 false false ∷
+    mapped 0x20 ReadWrite 0xE000C000 false true ∷
+    mapped 0x24 ReadWrite 0xC000C000 false true ∷
+    []
+
 -- By call. A call on a device and the memory lent to it, or a look at the counts or at the memory.
 pub data Call : Type 0 where
   a-write : (offset value : ℕ) → Call
@@ -378,7 +409,7 @@ told-by d m (e ∷ es) = let t = told d m (e .call) in t .said ∷ told-by (t .d
 unfoldable pub played : Log → List Said
 played l = told-by (l .device) (l .memory) (l .entries)
 
--- FIFO, place and counts: the slots, how many are held, the place, and samples, completed, landed, discarded.
+-- Devices made by hand. FIFO, place and counts: the slots, how many are held, the place, and samples, completed, landed, discarded.
 abbrev pub words-are : List ℕ → ℕ → ℕ → ℕ → ℕ → ℕ → ℕ → OutputState
 words-are slots held place samples full landed discarded =
     record {
@@ -389,7 +420,36 @@ words-are slots held place samples full landed discarded =
 abbrev pub no-slots : List ℕ
 no-slots = 0 ∷ 0 ∷ 0 ∷ 0 ∷ []
 
--- What no case above shows. Offsets are numbers where the map is meant, names elsewhere.
+-- The capture state with another partial word, and with an open frame.
+abbrev pub partial-is : ℕ → ℕ → Capture → Capture
+partial-is count bits s = with-partial (record { count = count; bits = bits }) s
+
+abbrev pub frame-is : Bool → ℕ → ℕ → Capture → Capture
+frame-is taken lines pixels s = with-frame (Open taken (record { lines = lines; pixels = pixels })) s
+
+-- A fresh device with words, with its capture state changed, with other registers, and with a CR and a rate counter.
+abbrev pub idle : OutputState → Device
+idle x = device fresh-capture x
+
+abbrev pub fresh-but : (Capture → Capture) → Device
+fresh-but change = device (change fresh-capture) (output-of fresh)
+
+abbrev pub registered : (Registers → Registers) → Device
+registered change = fresh-but (λ s. with-registers (change (s .registers)) s)
+
+abbrev pub rated : ℕ → ℕ → Device
+rated cr n = fresh-but (λ s. with-rate n (with-registers (with-cr cr (s .registers)) s))
+
+-- An enabled one with words; one after 8 samples in a taken frame, line 1, pixel 3, with its capture state changed.
+abbrev pub enabled-with : OutputState → Device
+enabled-with x = device (capture-of (write fresh CR 0x48E1 .device)) x
+
+abbrev pub capturing : ℕ → (Capture → Capture) → Device
+capturing cr change =
+    let d = run (write fresh CR cr .device) [] 0 (edges (blank ∷ 1 ∷ 2 ∷ 3 ∷ [])) .device in
+    device (change (capture-of d)) (output-of d)
+
+-- What no case above shows.
 unfoldable pub by-call : List Log
 by-call =
     -- "Reset": each register of a fresh device at its offset, as a number; refusal 3 of ICR; the line and the counts
@@ -480,7 +540,7 @@ by-call =
     (a-write CR 0x48E1 ▸ done ∷
     a-run 0 (edge blank) ▸ done ∷
     a-write CR 0x08E0 ▸ done ∷
-    a-write CR 0x48E1 ▸ done ∷
+    a-write CR 0x48E0 ▸ done ∷
     a-write ICR 0x1F ▸ done ∷
     a-run 0 (edge blank) ▸ done ∷
     a-read RIS ▸ reads 0x18 ∷
@@ -535,6 +595,10 @@ by-call =
     a-run 0 (edges (2 ∷ blank ∷ [])) ▸ done ∷
     a-read RIS ▸ reads 0x18 ∷
     []) ∷
+    -- rule 5: with CM 1 a frame is taken whatever the rate counter is; no frame starts where one is open. No calls from reset lead to these two devices
+    log (rated 0x49E3 1) [] (a-run 0 (edges (blank ∷ 1 ∷ 2 ∷ [])) ▸ done ∷ the-counts ▸ counts 6 1 0 0 1 0 ∷ []) ∷
+    log (capturing 0x48E1 (λ s. with-syncs (record { hsync = false; vsync = true }) (partial-is 0 0 (frame-is false 1 3 s)))) []
+    (a-run 0 (edges (4 ∷ 5 ∷ [])) ▸ done ∷ the-counts ▸ counts 12 1 0 0 1 0 ∷ []) ∷
     -- single samples from byte 3 of 13: the landing is a byte of the lent memory; a third word has no room; no other byte changes; re-arming sets the place to 0
     log fresh (replicate 13 0xEE)
     (a-write CR 0x48E3 ▸ done ∷
@@ -594,7 +658,7 @@ by-call =
     the-memory ▸ holds (replicate 4 0) ∷
     []) ∷
     -- refusal 8: there is one sample left; 7 is before 8
-    log (device fresh-capture (words-are no-slots 0 0 4294967294 0 0 0)) []
+    log (idle (words-are no-slots 0 0 4294967294 0 0 0)) []
     (a-run 0 (0 ∷ 0 ∷ []) ▸ refused 8 ∷
     a-sample 0 0 ▸ sampled none nothing ∷
     a-sample 0 0 ▸ refused 8 ∷
@@ -603,7 +667,7 @@ by-call =
     the-counts ▸ counts 4294967295 0 0 0 0 0 ∷
     []) ∷
     -- refusal 1, before 2 and 9: every call on a malformed device (place 1 above landed 0), which stays as it was
-    log (device fresh-capture (words-are no-slots 0 1 0 0 0 0)) []
+    log (idle (words-are no-slots 0 1 0 0 0 0)) []
     (a-read 0x00 ▸ refused 1 ∷
     a-read 0x28 ▸ refused 1 ∷
     all-refused 1 (IER ≔ 1 ∷ 0x28 ≔ 0 ∷ []) ++
@@ -627,31 +691,6 @@ well d = record { device = d; malformed = false }
 
 abbrev pub ill : Device → Judged
 ill d = record { device = d; malformed = true }
-
--- A fresh device with other registers, with words, or with a CR and a rate counter; an enabled one with words; one after 8 samples in a taken frame, line 1, pixel 3,
--- with its capture state changed.
-abbrev pub registered : (Registers → Registers) → Device
-registered change = device (with-registers (change (fresh-capture .registers)) fresh-capture) (output-of fresh)
-
-abbrev pub idle : OutputState → Device
-idle x = device fresh-capture x
-
-abbrev pub rated : ℕ → ℕ → Device
-rated cr n = device (with-rate n (with-registers (with-cr cr (fresh-capture .registers)) fresh-capture)) (output-of fresh)
-
-abbrev pub enabled-with : OutputState → Device
-enabled-with x = device (capture-of (write fresh CR 0x48E1 .device)) x
-
-abbrev pub capturing : ℕ → (Capture → Capture) → Device
-capturing cr change =
-    let d = run (write fresh CR cr .device) [] 0 (edges (blank ∷ 1 ∷ 2 ∷ 3 ∷ [])) .device in
-    device (change (capture-of d)) (output-of d)
-
-abbrev pub partial-is : ℕ → ℕ → Capture → Capture
-partial-is count bits s = with-partial (record { count = count; bits = bits }) s
-
-abbrev pub frame-is : Bool → ℕ → ℕ → Capture → Capture
-frame-is taken lines pixels s = with-frame (Open taken (record { lines = lines; pixels = pixels })) s
 
 -- "Malformed means one of", clause by clause: devices just malformed by it alone, and ones that are just not.
 unfoldable pub judged : List Judged
@@ -684,7 +723,7 @@ judged =
     well (registered (with-ier 31)) ∷
     ill (registered (with-ier 32)) ∷
     -- a frame open, a held word or a rate counter above 0 while ENABLE is 0 (a partial word is outside a frame then)
-    ill (device (frame-is true 0 0 fresh-capture) (output-of fresh)) ∷
+    ill (fresh-but (frame-is true 0 0)) ∷
     well (enabled-with (words-are (1 ∷ 0 ∷ 0 ∷ 0 ∷ []) 1 0 9 1 0 0)) ∷
     ill (idle (words-are (1 ∷ 0 ∷ 0 ∷ 0 ∷ []) 1 0 9 1 0 0)) ∷
     well (rated 0x4100 1) ∷
@@ -725,15 +764,16 @@ frame-started = run (write fresh CR 0x48E3 .device) [] 0 (edges (blank ∷ line-
 unfoldable pub syncs-at-reset : Syncs
 syncs-at-reset = fresh .core .capture .syncs
 
--- The statement: every case leaves what its row says, every call tells what stands beside it, every device is judged so, and the state is as said.
+-- The statement: every case leaves what its row says, every register is mapped so, every call tells what stands beside it, every device is judged so, and the state is as said.
 abbrev pub cases : List Case
 cases = starred ++ mistakes ++ by-rule
 
 pub bench-sheet : (map made cases ≡ map (λ c. c .sheet) cases)
+    × (map map-of every ≡ by-register)
     × (map played by-call ≡ map (λ l. map (λ e. e .said) (l .entries)) by-call)
     × (map (λ j. malformed (j .device)) judged ≡ map (λ j. j .malformed) judged)
     × (snapshot-rate ≡ 0)
     × (frame-started ≡ Open true (record { lines = 0; pixels = 0 }))
     × (syncs-at-reset ≡ record { hsync = false; vsync = false })
 unfolding word-at written words made told told-by played starred mistakes by-rule by-call judged snapshot-rate frame-started syncs-at-reset every-rule
-bench-sheet = (refl, refl, refl, refl, refl, refl)
+bench-sheet = (refl, refl, refl, refl, refl, refl, refl)
