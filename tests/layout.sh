@@ -1,5 +1,6 @@
 #!/usr/bin/env bash
-# The sources are in the formatter's layout, no public function that a user may call has a `requires`, and no proof has a hole.
+# The sources are in the formatter's layout, no public function that a user may call has a `requires`, no proof has a hole, and an alias of a file of
+# definitions means the same file everywhere.
 set -u
 cd "$(dirname "$0")/.." || exit 2
 bad=0
@@ -32,6 +33,11 @@ done
 
 holes=$(grep -rnE '(^|[^-A-Za-z])\?[[:space:]]*$' --include='*.antt' crates)
 [ -z "$holes" ] || say "a proof has a hole: $holes"
+
+# Aliases, `use FILE as ALIAS`, of the code and the definitions; a crate names its own files in another way than the others do.
+aliases=$(cat crates/*/src/*.rt crates/*/specs/*.antt | sed -nE 's/·specs\.specs/.specs/; s/^(ghost )?use (Rattle[^ {;]+) as ([a-z0-9-]+);?$/\3 \2/p' | sort -u)
+twice=$(cut -d ' ' -f 1 <<<"$aliases" | uniq -d)
+[ -z "$twice" ] || say "an alias has two files: $twice"
 
 echo "layout: $checked source files reachable from outside, $(find crates -name '*.antt' | wc -l) files of definitions and proofs"
 exit $bad
