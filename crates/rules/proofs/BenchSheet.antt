@@ -258,12 +258,12 @@ by-rule =
     (leaves (0 ∷ 0 ∷ 0 ∷ []) (0x00020001 ∷ 0x00050004 ∷ []) 0 0 0x48E5 0x19 3) ∷
     -- rule 7: line 1, columns 2 to 5 (VST 1, VLINE 0, HOFFCNT 2, CAPCNT 3), of lines 0 to 2
     case
-    (CWSTRT ≔ 0x10002 ∷ CWSIZE ≔ 3 ∷ IER ≔ 5 ∷ CR ≔ 0x48E7 ∷ [])
+    (CWSTRT ≔ 0x10002 ∷ CWSIZE ≔ 3 ∷ CR ≔ 0x48E7 ∷ [])
     (edges (blank ∷ 1 ∷ 2 ∷ 3 ∷ 4 ∷ 5 ∷ 6 ∷ line-gap ∷ 7 ∷ 8 ∷ 9 ∷ 10 ∷ 11 ∷ 12 ∷ 13 ∷ line-gap ∷ 14 ∷ 15 ∷ 16 ∷ 17 ∷ []) ++
     granted line-gap ++
     granted line-gap)
     []
-    (leaves (0 ∷ 0 ∷ 0 ∷ 0 ∷ 0 ∷ []) (0x000A0009 ∷ 0x000C000B ∷ []) 0 0 0x48E7 0x18 1) ∷
+    (leaves (0 ∷ 0 ∷ 0 ∷ 0 ∷ []) (0x000A0009 ∷ 0x000C000B ∷ []) 0 0 0x48E7 0x18 1) ∷
     -- rule 7: lines 0 and 1, columns 0 and 1, of lines 0 to 2
     case (CWSIZE ≔ 0x10001 ∷ CR ≔ 0x48E7 ∷ []) (edges (blank ∷ 1 ∷ 2 ∷ line-gap ∷ 3 ∷ 4 ∷ line-gap ∷ 5 ∷ 6 ∷ [])) []
     (leaves (0 ∷ 0 ∷ 0 ∷ []) [] 2 0 0x48E7 0x18 4) ∷
@@ -632,7 +632,7 @@ by-call =
     a-sample 0 0x3000A ▸ sampled (some 0) (completed 0x000A0009) ∷
     the-counts ▸ counts 22 5 1 0 4 1 ∷
     []) ∷
-    -- the sheet's last line: of 8 bytes, start 4 has room for one word, 5 and 8 for none, 9 is refused 9; an empty trace changes nothing
+    -- the sheet's last line: of 8 bytes, start 4 has room for one word, 5 and 8 for none, 9 is refused 9; an empty trace changes nothing. Word 1 fits bytes 4 to 7
     log fresh (replicate 8 0)
     (a-write CR 0x48E3 ▸ done ∷
     a-run 0 (edges (blank ∷ 1 ∷ 2 ∷ 3 ∷ 4 ∷ [])) ▸ done ∷
@@ -645,6 +645,8 @@ by-call =
     the-memory ▸ holds (0 ∷ 0 ∷ 0 ∷ 0 ∷ 1 ∷ 0 ∷ 2 ∷ 0 ∷ []) ∷
     a-run 8 [] ▸ done ∷
     the-counts ▸ counts 14 2 1 0 1 1 ∷
+    a-run 0 (0x20000 ∷ []) ▸ done ∷
+    the-memory ▸ holds (0 ∷ 0 ∷ 0 ∷ 0 ∷ 3 ∷ 0 ∷ 4 ∷ 0 ∷ []) ∷
     []) ∷
     -- a refused run or sample leaves device and memory, also if a later sample was the bad one; 9 is before 7
     log fresh (replicate 4 0)
@@ -711,6 +713,7 @@ judged =
     ill (capturing 0x41E1 (partial-is 3 0x1000000)) ∷
     -- as many partial data as a full word
     ill (capturing 0x49E1 (partial-is 2 0)) ∷
+    ill (capturing 0x49E1 (partial-is 3 0)) ∷
     ill (capturing 0x41E1 (partial-is 4 0)) ∷
     -- register contents that refusals 4 and 5 exclude
     ill (registered (with-cr 0x1000)) ∷
