@@ -3,6 +3,7 @@
 // equation with a definition of specs/; refused, all of them are as they were.
 ghost use mathlib.Core.Path.{_≡_};
 ghost use Rattle.device.specs.Answers as device-answers;
+ghost use Rattle.output.specs.Answers as output-answers;
 ghost use Rattle.sampling.specs.Answers as sample-answers;
 ghost use Rattle.trace.specs.Answers as trace-answers;
 ghost use Rattle.trace.specs.Writing as writing;
@@ -15,8 +16,8 @@ use device::Sampled;
 use device_words::device_of;
 use device_words::encodes;
 use device_words::image_of;
+use output::Landing;
 use refusals::Outcome;
-use sampling::Landing;
 use sampling::Packing;
 use trace::Item;
 use trace::Read;
@@ -165,7 +166,7 @@ pub extern "C" fn dcmi_run_file_slices(
 }
 
 fn landed_word(landing: Landing) -> u64
-    ensures { λ r. ⌜ r ≡ call-rules.landed-word (sample-answers.landing landing) ⌝ }
+    ensures { λ r. ⌜ r ≡ call-rules.landed-word (output-answers.landing landing) ⌝ }
 {
     match landing {
         Landing::Nowhere => 0,
@@ -174,7 +175,7 @@ fn landed_word(landing: Landing) -> u64
 }
 
 fn byte_word(landing: Landing) -> u64
-    ensures { λ r. ⌜ r ≡ call-rules.byte-word (sample-answers.landing landing) ⌝ }
+    ensures { λ r. ⌜ r ≡ call-rules.byte-word (output-answers.landing landing) ⌝ }
 {
     match landing {
         Landing::Nowhere => 0,

@@ -15,7 +15,7 @@ use Rattle.samples.specs.Samples.{bus-grant, any-bad}
 use Rattle.refusals.specs.Refusals.{Test, _⇒_}
 use Rattle.refusals.proofs.Accepted.{accepted}
 use Rattle.output.specs.Output.{OutputState, contents, room, Granted, no-landing, lands, oldest-lands, grant}
-use Rattle.output.proofs.Landing.{has-room}
+use Rattle.output.proofs.Granting.{has-room}
 use Rattle.rules.specs.declared.Device.{Device}
 use Rattle.rules.specs.State.{output-of}
 use Rattle.rules.specs.Capture.{enabled}

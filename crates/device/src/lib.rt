@@ -10,6 +10,7 @@ mod runs;
 mod well_formed;
 
 use output::Counts;
+use output::Landing;
 use output::Output;
 use output::SLOTS;
 use refusals::Outcome;
@@ -28,7 +29,6 @@ use rules::Registers;
 use rules::Syncs;
 pub use runs::run;
 pub use runs::sample;
-use sampling::Landing;
 use sampling::Packing;
 pub use well_formed::malformed;
 

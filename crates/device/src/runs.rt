@@ -4,20 +4,19 @@ ghost use mathlib.Core.Option.{some};
 ghost use Prim.Native.Nat.{ℕ, _+_, _<_, _^_};
 ghost use lib.Dec.{ltb};
 ghost use lib.ListN.{length};
+ghost use Rattle.output.specs.Answers.{landing};
 ghost use Rattle.rules.specs.Run as run-rules;
-ghost use Rattle.sampling.specs.Answers.{landing};
 ghost use Rattle.refusals.specs.Table.{outcome};
 ghost use Rattle.device.specs.Answers as device-answers;
 use crate::Changed;
 use crate::Reply;
 use crate::Sampled;
 use crate::well_formed::malformed;
+use output::Landing;
 use refusals::Outcome;
 use refusals::Refusal;
 use rules::Device;
 use samples::any_bad;
-use sampling::Landing;
-use sampling::answers;
 
 // Whether the samples in all would pass 4,294,967,295.
 fn too_many(before: u32, samples: &[u32]) -> bool
@@ -88,9 +87,11 @@ pub fn sample(d: Device, memory: &mut [u8], start: usize, w: u32) -> Sampled
             reply: Reply::Refused(refusal),
         },
         Outcome::Accepted => {
-            let device = sampling::run(d, &mut memory[start..], &one);
-            let landing = in_memory(start, answers::landing(d, device));
-            let packing = answers::packing(d, device);
+            let after = sampling::sample(d, &mut memory[start..], w);
+            let device = after.device;
+            let landed = after.landing;
+            let landing = in_memory(start, landed);
+            let packing = after.packing;
             Sampled {
                 device,
                 reply: Reply::Answered(landing, packing),

@@ -1,6 +1,6 @@
 pub mod Contents
 pub mod Moving
-pub mod Landing
+pub mod Granting
 pub mod ReadBack
 pub mod WellFormed
 pub mod Untouched

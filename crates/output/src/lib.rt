@@ -32,6 +32,18 @@ pub struct Output {
     pub counts: Counts,
 }
 
+// Rule 1's answer: the byte of the frame buffer at which the oldest held word landed; `Nowhere` where no word did.
+pub enum Landing {
+    Nowhere,
+    At(usize),
+}
+
+// The output after a grant, and where a word landed.
+pub struct Granted {
+    pub landing: Landing,
+    pub output: Output,
+}
+
 // What became of a full word.
 pub enum Fate {
     Held,
@@ -118,22 +130,30 @@ fn landed(o: Output) -> Output
 }
 
 // Rule 1 where the bus grants and ENABLE is 1: the oldest held word, if there is one and it has room, goes to the next place.
-fn oldest_lands(o: Output, slots: &mut [u32; SLOTS], buffer: &mut [u8]) -> Output
+fn oldest_lands(o: Output, slots: &mut [u32; SLOTS], buffer: &mut [u8]) -> Granted
     requires { ⌜ Laid (output-answers.left o (now slots)) ⌝ }
     requires { ⌜ (o .place + 1 < 2 ^ 32) × (o .counts .landed + 1 < 2 ^ 32) ⌝ }
-    ensures { λ r. ⌜ output-answers.left r (now (slots .exit)) ≡ output-rules.grant true true (output-answers.left o (now (slots .entry))) (now (buffer .entry)) .state ⌝ }
-    ensures { λ _. ⌜ now (buffer .exit) ≡ output-rules.grant true true (output-answers.left o (now (slots .entry))) (now (buffer .entry)) .buffer ⌝ }
+    ensures { λ r. ⌜ output-answers.granted r (now (slots .exit)) (now (buffer .exit)) ≡ output-rules.grant true true (output-answers.left o (now (slots .entry))) (now (buffer .entry)) ⌝ }
 {
     if 0 < o.held {
         if room(o.place, buffer) {
             let at = 4 * (o.place as usize);
             store(buffer, at, slots[0]);
             move_down(slots);
-            return landed(o);
+            return Granted {
+                landing: Landing::At(at),
+                output: landed(o),
+            };
         }
-        return o;
+        return Granted {
+            landing: Landing::Nowhere,
+            output: o,
+        };
     }
-    o
+    Granted {
+        landing: Landing::Nowhere,
+        output: o,
+    }
 }
 
 // Rule 1.
@@ -143,19 +163,24 @@ pub fn grant(
     o: Output,
     slots: &mut [u32; SLOTS],
     buffer: &mut [u8],
-) -> Output
+) -> Granted
     requires { ⌜ Laid (output-answers.left o (now slots)) ⌝ }
     requires { ⌜ (o .place + 1 < 2 ^ 32) × (o .counts .landed + 1 < 2 ^ 32) ⌝ }
-    ensures { λ r. ⌜ output-answers.left r (now (slots .exit)) ≡ output-rules.grant granted enabled (output-answers.left o (now (slots .entry))) (now (buffer .entry)) .state ⌝ }
-    ensures { λ _. ⌜ now (buffer .exit) ≡ output-rules.grant granted enabled (output-answers.left o (now (slots .entry))) (now (buffer .entry)) .buffer ⌝ }
+    ensures { λ r. ⌜ output-answers.granted r (now (slots .exit)) (now (buffer .exit)) ≡ output-rules.grant granted enabled (output-answers.left o (now (slots .entry))) (now (buffer .entry)) ⌝ }
 {
     if granted {
         if enabled {
             return oldest_lands(o, slots, buffer);
         }
-        return o;
+        return Granted {
+            landing: Landing::Nowhere,
+            output: o,
+        };
     }
-    o
+    Granted {
+        landing: Landing::Nowhere,
+        output: o,
+    }
 }
 
 // One word more is completed.

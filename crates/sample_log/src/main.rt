@@ -11,12 +11,12 @@ ghost use Rattle.sample_log.specs.Samples.{trace-t, samples};
 use device::Reading;
 use device::Reply;
 use libc::STDOUT_FILENO;
+use output::Landing;
 use output::SLOTS;
 use refusals::Outcome;
 use registers::Register;
 use rules::Device;
 use rules::Partial;
-use sampling::Landing;
 use sampling::Packing;
 
 fn text(t: &[u8]) {

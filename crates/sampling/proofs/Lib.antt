@@ -1,3 +1,3 @@
-pub mod Going
 pub mod Ready
-pub mod Told
+pub mod Noted
+pub mod Going

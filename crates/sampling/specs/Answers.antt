@@ -1,32 +1,36 @@
--- The values of each case of a sample's two answers (document 01, "One sample"), and what some samples leave by value and in lent places, together.
+-- The paper's values of each case of rule 9's answer (document 01, "One sample"), and what a sample or some samples leave by value and in lent places, together.
 use mathlib.Core.List.{List}
-use mathlib.Core.Option.{Option, none, some}
 use Prim.Native.Nat.{ℕ}
+use Rattle.output.specs.Answers.{landing}
 use Rattle.rules.specs.declared.Core.{Core}
 use Rattle.rules.specs.declared.Device.{Device}
-use Rattle.rules.specs.Run.{Packed, nothing, completed, lost, Ran}
-use Rattle.sampling.specs.declared.Landing.{Landing}
-use Rattle.sampling.specs.declared.Landing.the-variants.{Nowhere, At}
+use Rattle.rules.specs.Run as run-rules
 use Rattle.sampling.specs.declared.Packing.{Packing}
-use Rattle.sampling.specs.declared.Packing.the-variants.{Nothing, Completed, Lost}
+use Rattle.sampling.specs.declared.Packing.the-variants as packing-cases
+use Rattle.sampling.specs.declared.Completed.{Completed}
+use Rattle.sampling.specs.declared.Sampled.{Sampled}
+use Rattle.sampling.specs.Notes.{Noted}
 
--- The byte at which a word landed, if one did.
-abbrev pub landing : Landing → Option ℕ
-landing Nowhere = none
-landing (At byte) = some byte
+-- No word was completed (`complete`: none was full), one was, with its value (`after-word`: it is held), or one was lost (`after-word`).
+abbrev pub packing : Packing → run-rules.Packed
+packing packing-cases.Nothing = run-rules.nothing
+packing (packing-cases.Completed v) = run-rules.completed v
+packing packing-cases.Lost = run-rules.lost
 
--- No word was completed, one was, with its value, or one was lost.
-abbrev pub packing : Packing → Packed
-packing Nothing = nothing
-packing (Completed v) = completed v
-packing Lost = lost
-
--- The device of a core and its slots; and with the frame buffer that some samples leave.
+-- The device of a core and its slots; with what became of the word.
 abbrev pub device : Core → List ℕ → Device
 device c slots = record { core = c; slots = slots }
 
-abbrev pub ran : Device → List ℕ → Ran
+abbrev pub completed : Completed → List ℕ → run-rules.Completed
+completed c slots = record { device = device (c .core) slots; packed = packing (c .packing) }
+
+-- A device and the frame buffer after some samples; with the places where the answers are noted.
+abbrev pub ran : Device → List ℕ → run-rules.Ran
 ran d buffer = record { device = d; buffer = buffer }
 
-abbrev pub stepped : Core → List ℕ → List ℕ → Ran
-stepped c slots buffer = ran (device c slots) buffer
+abbrev pub noted : Core → List ℕ → List ℕ → List ℕ → List ℕ → Noted
+noted c slots buffer landings words = record { device = device c slots; buffer = buffer; landings = landings; words = words }
+
+-- A device and the frame buffer after one sample, with its two answers.
+abbrev pub sampled : Sampled → List ℕ → run-rules.Stepped
+sampled s buffer = record { device = s .device; buffer = buffer; landing = landing (s .landing); packed = packing (s .packing) }

@@ -6,6 +6,8 @@ ghost use Rattle.output.specs.WellFormed.{Laid};
 ghost use Rattle.rules.specs.Run as run-rules;
 ghost use Rattle.capture.specs.Answers as capture-answers;
 ghost use Rattle.sampling.specs.Answers as sample-answers;
+use crate::Completed;
+use crate::Packing;
 use capture::Captured;
 use capture::Word;
 use capture::apart;
@@ -33,10 +35,10 @@ fn lose_frame(s: Capture) -> Capture
 }
 
 // By what became of the word: it is held; or it is lost, and with it the held words and the frame.
-fn full_word(v: u32, s: Capture, o: Output, slots: &mut [u32; SLOTS]) -> Core
+fn full_word(v: u32, s: Capture, o: Output, slots: &mut [u32; SLOTS]) -> Completed
     requires { ⌜ Laid (left o (now slots)) ⌝ }
     requires { ⌜ (s .registers .ris ≤ 31) × (o .counts .completed + 1 < 2 ^ 32) × (o .counts .discarded + o .held + 1 < 2 ^ 32) ⌝ }
-    ensures { λ r. ⌜ sample-answers.device r (now (slots .exit)) ≡ run-rules.full-word v s (left o (now (slots .entry))) .device ⌝ }
+    ensures { λ r. ⌜ sample-answers.completed r (now (slots .exit)) ≡ run-rules.full-word v s (left o (now (slots .entry))) ⌝ }
 {
     let s = apart(s);
     let offered = offer(v, o, slots);
@@ -44,29 +46,38 @@ fn full_word(v: u32, s: Capture, o: Output, slots: &mut [u32; SLOTS]) -> Core
     let fate = offered.fate;
     match fate {
         Fate::Held => {
-            return Core { capture: s, output };
+            return Completed {
+                packing: Packing::Completed(v),
+                core: Core { capture: s, output },
+            };
         }
         Fate::Lost => {
             let capture = lose_frame(s);
             let output = discard(1, output, slots);
-            return Core { capture, output };
+            return Completed {
+                packing: Packing::Lost,
+                core: Core { capture, output },
+            };
         }
     }
 }
 
 // Rule 9, where there is a word.
-pub fn complete(c: Captured, o: Output, slots: &mut [u32; SLOTS]) -> Core
+pub fn complete(c: Captured, o: Output, slots: &mut [u32; SLOTS]) -> Completed
     requires { ⌜ Laid (left o (now slots)) ⌝ }
     requires { ⌜ (c .state .registers .ris ≤ 31) × (o .counts .completed + 1 < 2 ^ 32) × (o .counts .discarded + o .held + 1 < 2 ^ 32) ⌝ }
-    ensures { λ r. ⌜ sample-answers.device r (now (slots .exit)) ≡ run-rules.complete (capture-answers.word (c .word)) (c .state) (left o (now (slots .entry))) .device ⌝ }
+    ensures { λ r. ⌜ sample-answers.completed r (now (slots .exit)) ≡ run-rules.complete (capture-answers.word (c .word)) (c .state) (left o (now (slots .entry))) ⌝ }
 {
     let s = c.state;
     let word = c.word;
     match word {
         Word::Nothing => {
-            return Core {
-                capture: s,
-                output: o,
+            return Completed {
+                packing: Packing::Nothing,
+                core: Core {
+                    capture: s,
+                    output: o,
+                },
             };
         }
         Word::Full(v) => {

@@ -4,10 +4,9 @@
 ghost use mathlib.Core.Bool.{false};
 ghost use mathlib.Core.Path.{_≡_};
 ghost use Prim.Native.Nat.{_+_, _<_, _^_};
-ghost use mathlib.Core.List.{[], _∷_};
 ghost use lib.ListN.{length};
 ghost use Rattle.samples.specs.Samples.{bus-grant};
-ghost use Rattle.output.specs.Answers.{left};
+ghost use Rattle.output.specs.Answers as output-answers;
 ghost use Rattle.output.specs.Output.{grant as rule-1};
 ghost use Rattle.output.specs.WellFormed.{Laid};
 ghost use Rattle.rules.specs.Capture.{enabled};
@@ -15,11 +14,18 @@ ghost use Rattle.rules.specs.Run as run-rules;
 ghost use Rattle.rules.specs.WellFormed.{malformed};
 ghost use Rattle.rules.proofs.WellFormed.{WellFormed};
 ghost use Rattle.sampling.specs.Answers as sample-answers;
+ghost use Rattle.sampling.specs.Notes as note-rules;
 
-pub mod answers;
 mod full_word;
+mod notes;
 
 use crate::full_word::complete;
+use crate::notes::note_landing;
+use crate::notes::note_packing;
+use crate::notes::noted_landing;
+use crate::notes::noted_packing;
+use output::Granted;
+use output::Landing;
 use output::Output;
 use output::SLOTS;
 use output::count_sample;
@@ -30,69 +36,125 @@ use rules::Core;
 use rules::Device;
 use samples::bus_grant;
 
-// Where a word landed: at a byte, if one did.
-pub enum Landing {
-    Nowhere,
-    At(usize),
-}
-
-// What became of the word of a sample: none was completed, one was, or one was lost.
+// Rule 9's answer, what became of the word of a sample: none was completed, one was and is held, or one was lost.
 pub enum Packing {
     Nothing,
     Completed(u32),
     Lost,
 }
 
+// The core after rule 9, and what became of the word.
+pub struct Completed {
+    pub packing: Packing,
+    pub core: Core,
+}
+
+// The device after one sample, with its two answers, the landing as a byte of the frame buffer.
+pub struct Sampled {
+    pub device: Device,
+    pub landing: Landing,
+    pub packing: Packing,
+}
+
 // Rule 1, by the sample's bus grant and ENABLE.
-fn granted(s: Capture, o: Output, slots: &mut [u32; SLOTS], buffer: &mut [u8], w: u32) -> Output
-    requires { ⌜ Laid (left o (now slots)) ⌝ }
+fn granted(s: Capture, o: Output, slots: &mut [u32; SLOTS], buffer: &mut [u8], w: u32) -> Granted
+    requires { ⌜ Laid (output-answers.left o (now slots)) ⌝ }
     requires { ⌜ (o .place + 1 < 2 ^ 32) × (o .counts .landed + 1 < 2 ^ 32) ⌝ }
-    ensures { λ r. ⌜ left r (now (slots .exit)) ≡ rule-1 (bus-grant w) (enabled s) (left o (now (slots .entry))) (now (buffer .entry)) .state ⌝ }
-    ensures { λ _. ⌜ now (buffer .exit) ≡ rule-1 (bus-grant w) (enabled s) (left o (now (slots .entry))) (now (buffer .entry)) .buffer ⌝ }
+    ensures { λ r. ⌜ output-answers.granted r (now (slots .exit)) (now (buffer .exit)) ≡ rule-1 (bus-grant w) (enabled s) (output-answers.left o (now (slots .entry))) (now (buffer .entry)) ⌝ }
 {
     if bus_grant(w) {
         return grant(true, control::enable(s.registers.cr), o, slots, buffer);
     }
-    o
+    Granted {
+        landing: Landing::Nowhere,
+        output: o,
+    }
 }
 
-// The nine rules in order.
-fn step(d: Core, slots: &mut [u32; SLOTS], buffer: &mut [u8], w: u32) -> Core
+// The nine rules in order, with the answers of rules 1 and 9 noted.
+fn step(
+    d: Core,
+    slots: &mut [u32; SLOTS],
+    buffer: &mut [u8],
+    landings: &mut [usize; 2],
+    words: &mut [u32; 2],
+    w: u32,
+) -> Core
     requires { ⌜ WellFormed (sample-answers.device d (now slots)) ⌝ }
-    requires { ⌜ Laid (left (d .output) (now slots)) ⌝ }
+    requires { ⌜ Laid (output-answers.left (d .output) (now slots)) ⌝ }
     requires { ⌜ d .output .counts .samples + 1 < 2 ^ 32 ⌝ }
-    ensures { λ r. ⌜ sample-answers.stepped r (now (slots .exit)) (now (buffer .exit)) ≡ run-rules.steps (sample-answers.device d (now (slots .entry))) (now (buffer .entry)) (w ∷ []) ⌝ }
+    ensures { λ r. ⌜ sample-answers.noted r (now (slots .exit)) (now (buffer .exit)) (now (landings .exit)) (now (words .exit)) ≡ note-rules.noted-step (sample-answers.noted d (now (slots .entry)) (now (buffer .entry)) (now (landings .entry)) (now (words .entry))) w ⌝ }
 {
     let s = capture::apart(d.capture);
     let counted = count_sample(d.output);
-    let o = granted(s, counted, slots, buffer, w);
-    complete(capture::sample(s, w), o, slots)
+    let g = granted(s, counted, slots, buffer, w);
+    let landing = g.landing;
+    note_landing(landing, landings);
+    let o = g.output;
+    let c = complete(capture::sample(s, w), o, slots);
+    let packing = c.packing;
+    note_packing(packing, words);
+    c.core
 }
 
 // The samples in order. Its loop is the one place where `step` is called, so that the compiler makes the rules part of it.
-pub fn steps(d: Core, slots: &mut [u32; SLOTS], buffer: &mut [u8], samples: &[u32]) -> Core
+fn steps(
+    d: Core,
+    slots: &mut [u32; SLOTS],
+    buffer: &mut [u8],
+    landings: &mut [usize; 2],
+    words: &mut [u32; 2],
+    samples: &[u32],
+) -> Core
     requires { ⌜ WellFormed (sample-answers.device d (now slots)) ⌝ }
-    requires { ⌜ Laid (left (d .output) (now slots)) ⌝ }
+    requires { ⌜ Laid (output-answers.left (d .output) (now slots)) ⌝ }
     requires { ⌜ d .output .counts .samples + length (now samples) < 2 ^ 32 ⌝ }
-    ensures { λ r. ⌜ sample-answers.stepped r (now (slots .exit)) (now (buffer .exit)) ≡ run-rules.steps (sample-answers.device d (now (slots .entry))) (now (buffer .entry)) (now (samples .entry)) ⌝ }
+    ensures { λ r. ⌜ sample-answers.noted r (now (slots .exit)) (now (buffer .exit)) (now (landings .exit)) (now (words .exit)) ≡ note-rules.noted-steps (sample-answers.noted d (now (slots .entry)) (now (buffer .entry)) (now (landings .entry)) (now (words .entry))) (now (samples .entry)) ⌝ }
 {
     let mut e = d;
     let mut i = 0;
     while i < samples.len() {
         let w = samples[i];
-        e = step(e, slots, buffer, w);
+        e = step(e, slots, buffer, landings, words, w);
         i += 1;
     }
     e
 }
 
-// The samples in order over a device by value: its slots are taken out for the loop, and put back.
+// The samples in order over a device by value: its slots are taken out for the loop, and put back. What is noted is not read.
 pub fn run(d: Device, buffer: &mut [u8], samples: &[u32]) -> Device
     requires { ⌜ malformed d ≡ false ⌝ }
     requires { ⌜ d .core .output .counts .samples + length (now samples) < 2 ^ 32 ⌝ }
     ensures { λ r. ⌜ sample-answers.ran r (now (buffer .exit)) ≡ run-rules.steps d (now (buffer .entry)) (now (samples .entry)) ⌝ }
 {
     let mut slots = d.slots;
-    let core = steps(d.core, &mut slots, buffer, samples);
+    let mut landings = [0; 2];
+    let mut words = [0; 2];
+    let core = steps(
+        d.core,
+        &mut slots,
+        buffer,
+        &mut landings,
+        &mut words,
+        samples,
+    );
     Device { core, slots }
+}
+
+// One sample over a device by value, with its two answers.
+pub fn sample(d: Device, buffer: &mut [u8], w: u32) -> Sampled
+    requires { ⌜ malformed d ≡ false ⌝ }
+    requires { ⌜ d .core .output .counts .samples + 1 < 2 ^ 32 ⌝ }
+    ensures { λ r. ⌜ sample-answers.sampled r (now (buffer .exit)) ≡ run-rules.step d (now (buffer .entry)) w ⌝ }
+{
+    let one = [w];
+    let mut slots = d.slots;
+    let mut landings = [0; 2];
+    let mut words = [0; 2];
+    let core = steps(d.core, &mut slots, buffer, &mut landings, &mut words, &one);
+    Sampled {
+        device: Device { core, slots },
+        landing: noted_landing(landings),
+        packing: noted_packing(words),
+    }
 }

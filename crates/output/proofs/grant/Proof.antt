@@ -1,6 +1,5 @@
 -- `output::grant` meets its contract. Assumes nothing.
 use borrow.Author.Needs.{needs}
-use mathlib.Core.Path.{refl}
 use Rattle.output.specs.Output.{no-landing, grant}
 use Rattle.output.proofs.grant.Statement.{statement}
 use Rattle.output.proofs.grant.Tie as tie
@@ -10,11 +9,11 @@ returns c = rw (c .before .before .before .before .before .before .if1 .taken, c
 
 returns-2 : tie.Need-returns-2
 unfolding grant no-landing
-returns-2 c = rw (c .before .if1 .taken, c .if2 .left) (refl, refl)
+returns-2 c = rw (c .before .if1 .taken, c .if2 .left)
 
 returns-3 : tie.Need-returns-3
 unfolding grant no-landing
-returns-3 c = rw (c .if1 .left) (refl, refl)
+returns-3 c = rw (c .if1 .left)
 
 pub grant-spec : {M : Type 1} → statement M
 grant-spec = tie.close (tie.spec (λ c κs. search needs) (λ c. search needs) returns returns-2 returns-3)

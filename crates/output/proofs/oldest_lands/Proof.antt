@@ -1,9 +1,9 @@
 -- `output::oldest_lands` meets its contract. Assumes nothing.
 use borrow.Author.Needs.{needs}
-use mathlib.Core.Path.{refl, sym, _∙_}
+use mathlib.Core.Path.{sym, _∙_}
 use Rattle.output.specs.Output.{OutputState, holding, stored, no-landing, lands}
 use Rattle.output.proofs.Contents.{all-slots, moved-down}
-use Rattle.output.proofs.Landing.{grant-lands, grant-no-room, grant-empty, has-room}
+use Rattle.output.proofs.Granting.{grant-lands, grant-no-room, grant-empty, has-room}
 use Rattle.output.proofs.oldest_lands.Statement.{statement}
 use Rattle.output.proofs.oldest_lands.Tie as tie
 
@@ -21,20 +21,20 @@ returns c =
     let x : OutputState = record { output = a .o; slots = a .slots .now } in
     let pos = c .before .before .before .before .before .before .before .before .before .before .before .before .if1 .taken in
     let g = grant-lands x (a .buffer .now) l pos (sym (c .before .before .before .before .before .before .before .before .before .before .room .ensures) ∙ c .before .before .before .before .before .before .before .before .before .if2 .taken) in
-    rw (g, c .landed .ensures, c .before .move-down .ensures, moved-down x l pos) (refl, c .before .before .before .before .before .store .ensures)
+    rw (g, c .landed .ensures, c .before .move-down .ensures, moved-down x l pos, c .before .before .before .before .before .store .ensures)
 
 returns-2 : tie.Need-returns-2
 unfolding no-landing
 returns-2 c =
     let g = grant-no-room _ _ (c .before .before .before .before .before .before .pre .0) (c .before .before .before .if1 .taken) (sym (c .before .room .ensures) ∙ c .if2 .left) in
-    rw g (refl, refl)
+    rw g
 
 returns-3 : tie.Need-returns-3
 unfolding no-landing
 returns-3 c =
     let a = c .before .before .before .args in
     let x : OutputState = record { output = a .o; slots = a .slots .now } in
-    rw (grant-empty x (a .buffer .now) (c .if1 .left)) (refl, refl)
+    rw (grant-empty x (a .buffer .now) (c .if1 .left))
 
 pub oldest-lands-spec : {M : Type 1} → statement M
 oldest-lands-spec =

@@ -1,6 +1,6 @@
 -- `sampling::granted` meets its contract. Assumes nothing.
 use borrow.Author.Needs.{needs}
-use mathlib.Core.Path.{refl, sym, _∙_}
+use mathlib.Core.Path.{sym, _∙_}
 use Rattle.output.specs.Output.{no-landing, grant}
 use Rattle.sampling.proofs.granted.Statement.{statement}
 use Rattle.sampling.proofs.granted.Tie as tie
@@ -10,7 +10,7 @@ returns c = rw (sym (c .before .before .before .before .before .before .before .
 
 returns-2 : tie.Need-returns-2
 unfolding grant no-landing
-returns-2 c = rw (sym (c .before .bus-grant .ensures) ∙ c .if1 .left) (refl, refl)
+returns-2 c = rw (sym (c .before .bus-grant .ensures) ∙ c .if1 .left)
 
 pub granted-spec : {M : Type 1} → statement M
 granted-spec = tie.close (tie.spec (λ c κs. search needs) (λ c κs. search needs) (λ c κs. search needs) (λ c. search needs) returns returns-2)

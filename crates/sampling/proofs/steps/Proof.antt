@@ -4,37 +4,38 @@ use borrow.Author.Needs.{needs}
 use lib.ListN.{length}
 use mathlib.Core.Path.{sym}
 use native.Mathlib.Omega.{arith}
-use Rattle.sampling.specs.Answers.{device}
+use Rattle.sampling.specs.Answers.{noted}
 use Rattle.sampling.proofs.Going.{Going, starting, going-on, going-end}
 use Rattle.sampling.proofs.steps.Statement.{statement}
 use Rattle.sampling.proofs.steps.Tie as tie
 
 abbrev Inv-loop : tie.InvT-loop
-Inv-loop slots₀ buffer₀ samples e₀ i₀ slots buffer e i = Going buffer₀ samples (device e₀ slots₀) buffer (device e slots) i
+Inv-loop slots₀ buffer₀ landings₀ words₀ samples e₀ i₀ slots buffer landings words e i =
+    Going samples (noted e₀ slots₀ buffer₀ landings₀ words₀) (noted e slots buffer landings words) i
 
 abbrev μ-loop : tie.MeasureT-loop
-μ-loop slots₀ buffer₀ samples e₀ i₀ slots buffer e i = length samples - i
+μ-loop slots₀ buffer₀ landings₀ words₀ samples e₀ i₀ slots buffer landings words e i = length samples - i
 
 loop-holds : tie.Need-loop-holds Inv-loop μ-loop
-loop-holds c = let pre = c .before .before .pre in starting _ _ _ (pre .0) (pre .1 .0)
+loop-holds c = let pre = c .before .before .pre in starting _ _ (pre .0) (pre .1 .0)
 
 shared-slice-read-w : tie.Need-shared-slice-read-w Inv-loop μ-loop
 shared-slice-read-w c = omega (arith, c .before .loop-test .taken)
 
 step-requires : tie.Need-step-requires Inv-loop μ-loop
 step-requires c κs =
-    let g = c .before .before .before .before .loop .inv in
-    (g .well, (g .laid, omega (arith, g .count, c .before .before .before .loop-test .taken, c .before .before .before .before .before .before .before .pre .1 .1)))
+    let g = c .before .before .before .before .before .before .loop .inv in
+    (g .well, (g .laid, omega (arith, g .count, c .before .before .before .before .before .loop-test .taken, c .before .before .before .before .before .before .before .before .before .pre .1 .1)))
 
 add-i : tie.Need-add-i Inv-loop μ-loop
-add-i c = omega (arith, c .before .before .before .before .before .before .loop-test .taken, c .before .before .before .before .before .before .before .before .before .before .good)
+add-i c = omega (arith, c .before .before .before .before .before .before .before .before .loop-test .taken, c .before .before .before .before .before .before .before .before .before .before .before .before .good)
 
 loop-less : tie.Need-loop-less Inv-loop μ-loop
-loop-less c = omega (arith, c .before .before .before .before .before .before .loop-test .taken)
+loop-less c = omega (arith, c .before .before .before .before .before .before .before .before .loop-test .taken)
 
 loop-again : tie.Need-loop-again Inv-loop μ-loop
 loop-again c =
-    going-on (c .before .before .before .before .before .before .before .loop .inv) _ _ (c .before .before .before .before .before .before .loop-test .taken) (c .before .before .step .ensures) (c .before .before .step .kept .1 .1 .0)
+    going-on (c .before .before .before .before .before .before .before .before .before .loop .inv) _ (c .before .before .before .before .before .before .before .before .loop-test .taken) (c .before .before .step .ensures) (c .before .before .step .kept .1 .1 .0)
 
 same-length : tie.Need-same-length Inv-loop μ-loop
 same-length c = c .before .loop .inv .long

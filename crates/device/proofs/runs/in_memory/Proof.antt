@@ -2,7 +2,7 @@
 use borrow.Author.Needs.{needs}
 use mathlib.Core.Path.{ap}
 use Rattle.rules.specs.Run.{in-memory}
-use Rattle.sampling.specs.Answers.{landing}
+use Rattle.output.specs.Answers.{landing}
 use Rattle.device.proofs.runs.in_memory.Statement.{statement}
 use Rattle.device.proofs.runs.in_memory.Tie as tie
 

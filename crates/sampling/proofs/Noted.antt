@@ -1,0 +1,34 @@
+-- What is noted along some samples changes neither device nor buffer; and of one sample, from places of zeros, it is the sample's two answers.
+-- The idea: by the cases of each answer. Assumes nothing.
+use mathlib.Core.List.{List, [], _∷_}
+use mathlib.Core.Option.{Option, none, some}
+use mathlib.Core.Path.{_≡_, refl}
+use Prim.Native.Nat.{ℕ}
+use Rattle.rules.specs.declared.Device.{Device}
+use Rattle.rules.specs.Run.{Packed, nothing, completed, lost, Stepped, step, Ran, steps}
+use Rattle.sampling.specs.Notes.{note-landing, note-packing, noted-landing, noted-packing, Noted, noted-step, noted-steps}
+
+pub same-run : (n : Noted) (ws : List ℕ)
+    → _≡_ {A = Ran} (record { device = noted-steps n ws .device; buffer = noted-steps n ws .buffer }) (steps (n .device) (n .buffer) ws)
+unfolding noted-steps noted-step steps
+same-run n [] = refl
+same-run n (w ∷ ws) = same-run (noted-step n w) ws
+
+landing-back : (l : Option ℕ) → noted-landing (note-landing l (0 ∷ 0 ∷ [])) ≡ l
+unfolding noted-landing note-landing
+landing-back none = refl
+landing-back (some byte) = refl
+
+packing-back : (p : Packed) → noted-packing (note-packing p (0 ∷ 0 ∷ [])) ≡ p
+unfolding noted-packing note-packing
+packing-back nothing = refl
+packing-back (completed v) = refl
+packing-back lost = refl
+
+pub one-sample : (d : Device) (b : List ℕ) (w : ℕ) {n : Noted}
+    → n ≡ noted-steps (record { device = d; buffer = b; landings = 0 ∷ 0 ∷ []; words = 0 ∷ 0 ∷ [] }) (w ∷ [])
+    → _≡_ {A = Stepped}
+    (record { device = n .device; buffer = n .buffer; landing = noted-landing (n .landings); packed = noted-packing (n .words) })
+    (step d b w)
+unfolding noted-steps noted-step
+one-sample d b w e = rw (e, landing-back, packing-back)
