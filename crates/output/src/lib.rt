@@ -3,9 +3,9 @@
 // The slots are lent and the rest goes by value (docs/SPEED.md). The functions that change them are for the crates of this repository, which call them on
 // well-formed states; each states its result as an equation with its definition.
 ghost use mathlib.Core.Path.{_≡_};
-ghost use Prim.Native.Nat.{_+_, _-_, _≤_, _<_, _^_};
+ghost use Prim.Native.Nat.{ℕ, _+_, _-_, _≤_, _<_, _^_};
 ghost use mathlib.Core.Bool.{true};
-ghost use mathlib.Core.List.{[], _∷_, _++_};
+ghost use mathlib.Core.List.{List, [], _∷_, _++_};
 ghost use lib.ListN.{length, take, drop, getD};
 ghost use Rattle.output.specs.Output as output-rules;
 ghost use Rattle.output.specs.WellFormed.{Laid};
@@ -129,6 +129,16 @@ fn landed(o: Output) -> Output
     after
 }
 
+// Rule 1 where no word lands.
+pub fn no_landing(o: Output) -> Granted
+    ensures { λ r. ⌜ ((slots buffer : List ℕ) → output-answers.granted r slots buffer ≡ output-rules.no-landing (output-answers.left o slots) buffer) ⌝ }
+{
+    Granted {
+        landing: Landing::Nowhere,
+        output: o,
+    }
+}
+
 // Rule 1 where the bus grants and ENABLE is 1: the oldest held word, if there is one and it has room, goes to the next place.
 fn oldest_lands(o: Output, slots: &mut [u32; SLOTS], buffer: &mut [u8]) -> Granted
     requires { ⌜ Laid (output-answers.left o (now slots)) ⌝ }
@@ -145,15 +155,9 @@ fn oldest_lands(o: Output, slots: &mut [u32; SLOTS], buffer: &mut [u8]) -> Grant
                 output: landed(o),
             };
         }
-        return Granted {
-            landing: Landing::Nowhere,
-            output: o,
-        };
+        return no_landing(o);
     }
-    Granted {
-        landing: Landing::Nowhere,
-        output: o,
-    }
+    no_landing(o)
 }
 
 // Rule 1.
@@ -172,15 +176,9 @@ pub fn grant(
         if enabled {
             return oldest_lands(o, slots, buffer);
         }
-        return Granted {
-            landing: Landing::Nowhere,
-            output: o,
-        };
+        return no_landing(o);
     }
-    Granted {
-        landing: Landing::Nowhere,
-        output: o,
-    }
+    no_landing(o)
 }
 
 // One word more is completed.

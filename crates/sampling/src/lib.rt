@@ -30,6 +30,7 @@ use output::Output;
 use output::SLOTS;
 use output::count_sample;
 use output::grant;
+use output::no_landing;
 use registers::control;
 use rules::Capture;
 use rules::Core;
@@ -65,10 +66,7 @@ fn granted(s: Capture, o: Output, slots: &mut [u32; SLOTS], buffer: &mut [u8], w
     if bus_grant(w) {
         return grant(true, control::enable(s.registers.cr), o, slots, buffer);
     }
-    Granted {
-        landing: Landing::Nowhere,
-        output: o,
-    }
+    no_landing(o)
 }
 
 // The nine rules in order, with the answers of rules 1 and 9 noted.

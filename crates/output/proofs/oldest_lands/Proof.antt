@@ -1,7 +1,7 @@
 -- `output::oldest_lands` meets its contract. Assumes nothing.
 use borrow.Author.Needs.{needs}
 use mathlib.Core.Path.{sym, _∙_}
-use Rattle.output.specs.Output.{OutputState, holding, stored, no-landing, lands}
+use Rattle.output.specs.Output.{OutputState, holding, stored, lands}
 use Rattle.output.proofs.Contents.{all-slots, moved-down}
 use Rattle.output.proofs.Granting.{grant-lands, grant-no-room, grant-empty, has-room}
 use Rattle.output.proofs.oldest_lands.Statement.{statement}
@@ -24,17 +24,15 @@ returns c =
     rw (g, c .landed .ensures, c .before .move-down .ensures, moved-down x l pos, c .before .before .before .before .before .store .ensures)
 
 returns-2 : tie.Need-returns-2
-unfolding no-landing
 returns-2 c =
-    let g = grant-no-room _ _ (c .before .before .before .before .before .before .pre .0) (c .before .before .before .if1 .taken) (sym (c .before .room .ensures) ∙ c .if2 .left) in
-    rw g
+    let g = grant-no-room _ _ (c .before .before .before .before .before .before .before .pre .0) (c .before .before .before .before .if1 .taken) (sym (c .before .before .room .ensures) ∙ c .before .if2 .left) in
+    rw g (c .no-landing .ensures _ _)
 
 returns-3 : tie.Need-returns-3
-unfolding no-landing
 returns-3 c =
-    let a = c .before .before .before .args in
+    let a = c .before .before .before .before .args in
     let x : OutputState = record { output = a .o; slots = a .slots .now } in
-    rw (grant-empty x (a .buffer .now) (c .if1 .left))
+    rw (grant-empty x (a .buffer .now) (c .before .if1 .left)) (c .no-landing2 .ensures _ _)
 
 pub oldest-lands-spec : {M : Type 1} → statement M
 oldest-lands-spec =
@@ -49,6 +47,8 @@ oldest-lands-spec =
     (λ c κs. search needs)
     (λ c. search needs)
     returns
+    (λ c κs. search needs)
     (λ c. search needs)
     returns-2
+    (λ c κs. search needs)
     returns-3)
