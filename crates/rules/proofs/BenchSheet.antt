@@ -288,8 +288,12 @@ by-rule =
     case (CR ≔ 0x48E1 ∷ []) (nine ++ edges (10 ∷ 11 ∷ 12 ∷ blank ∷ [])) [] (leaves accepted [] 0 5 0x48E1 0x1A 3) ∷
     -- "Registers": four held, and a flag cleared keeps them; CM may not change, nor bit 12 be 1
     case (CR ≔ 0x48E3 ∷ []) nine (ICR ≔ 8 ∷ CR ≔ 0x48E1 ∷ CR ≔ 0x58E3 ∷ []) (leaves (0 ∷ 0 ∷ 0 ∷ 6 ∷ 4 ∷ []) [] 4 0 0x48E3 0x10 4) ∷
-    -- "Writing CR": disabling discards the four held, flags stay; then CWSTRT and CR's other bits may be written
-    case (CR ≔ 0x48E3 ∷ []) nine (CR ≔ 0x08E2 ∷ CWSTRT ≔ 0x10002 ∷ CR ≔ 0x4021 ∷ []) (leaves (0 ∷ 0 ∷ 0 ∷ 0 ∷ 0 ∷ []) [] 0 4 0x4021 0x18 3) ∷
+    -- "Writing CR": disabling discards the four held, with CAPTURE 0 too, and flags stay; then CWSTRT and CR's other bits may be written
+    case
+    (CR ≔ 0x48E3 ∷ [])
+    nine
+    (CR ≔ 0x48E2 ∷ CR ≔ 0x08E2 ∷ CWSTRT ≔ 0x10002 ∷ CR ≔ 0x4021 ∷ [])
+    (leaves (0 ∷ 0 ∷ 0 ∷ 0 ∷ 0 ∷ 0 ∷ []) [] 0 4 0x4021 0x18 3) ∷
     []
 
 -- By register. What the map has of one: offset, access kind, reserved bits as a mask, whether it is CR, and whether it is of the crop window.
@@ -726,7 +730,7 @@ judged =
     well (registered (with-ier 31)) ∷
     ill (registered (with-ier 32)) ∷
     -- a frame open, a held word or a rate counter above 0 while ENABLE is 0 (a partial word is outside a frame then)
-    ill (fresh-but (frame-is true 0 0)) ∷
+    ill (fresh-but (frame-is false 0 0)) ∷
     well (enabled-with (words-are (1 ∷ 0 ∷ 0 ∷ 0 ∷ []) 1 0 9 1 0 0)) ∷
     ill (idle (words-are (1 ∷ 0 ∷ 0 ∷ 0 ∷ []) 1 0 9 1 0 0)) ∷
     well (rated 0x4100 1) ∷
@@ -737,6 +741,7 @@ judged =
     ill (capturing 0x49E1 (λ s. partial-is 1 0 (with-frame Closed s))) ∷
     -- the rate counter not below 1, 2, 4 for its FCRC
     ill (rated 0x4000 1) ∷
+    ill (rated 0x4000 3) ∷
     ill (rated 0x4100 2) ∷
     well (rated 0x4200 3) ∷
     ill (rated 0x4200 4) ∷
