@@ -32,13 +32,13 @@ pub struct Output {
     pub counts: Counts,
 }
 
-// Rule 1's answer: the byte of the frame buffer at which the oldest held word landed; `Nowhere` where no word did.
+// Rule 1's answer. At: the oldest held word landed at this byte of the frame buffer (`lands`). Nowhere: no word did (`no-landing`).
 pub enum Landing {
     Nowhere,
     At(usize),
 }
 
-// The output after a grant, and where a word landed.
+// The output after rule 1, and where a word landed. The answer stands first for speed (docs/SPEED.md).
 pub struct Granted {
     pub landing: Landing,
     pub output: Output,

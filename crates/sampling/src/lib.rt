@@ -37,14 +37,14 @@ use rules::Core;
 use rules::Device;
 use samples::bus_grant;
 
-// Rule 9's answer, what became of the word of a sample: none was completed, one was and is held, or one was lost.
+// Rule 9's answer. Nothing: no word was completed (`complete`). Completed: one was, with its value, and is held; Lost: one was lost (`after-word`).
 pub enum Packing {
     Nothing,
     Completed(u32),
     Lost,
 }
 
-// The core after rule 9, and what became of the word.
+// The core after rule 9, and what became of the word. The answer stands first for speed (docs/SPEED.md).
 pub struct Completed {
     pub packing: Packing,
     pub core: Core,
