@@ -1,6 +1,7 @@
 // Rules 6 and 7: the place of a pixel, and whether it is captured.
 ghost use mathlib.Core.Path.{_≡_};
 ghost use Prim.Native.Nat.{_+_, _-_, _<_, _^_};
+ghost use Rattle.rules.specs.CropWindow as crop-window;
 ghost use Rattle.rules.specs.Capture as capture-rules;
 use registers::control;
 use registers::window;
@@ -34,13 +35,13 @@ pub fn next_pixel(s: Capture, f: Scan) -> Scan
     }
 }
 
-// Rule 7: from a first one, that one and as many more as the register says, ends included.
-fn within(start: u32, more: u32, x: u32) -> bool
-    requires { ⌜ start + more < 2 ^ 32 ⌝ }
-    ensures { λ r. ⌜ r ≡ capture-rules.within start more x ⌝ }
+// One of so many from the first on.
+fn one_of(first: u32, number: u32, x: u32) -> bool
+    requires { ⌜ first + number < 2 ^ 32 ⌝ }
+    ensures { λ r. ⌜ r ≡ crop-window.one-of first number x ⌝ }
 {
-    if start <= x {
-        return x <= start + more;
+    if first <= x {
+        return x < first + number;
     }
     false
 }
@@ -55,22 +56,18 @@ fn less_one(n: u32) -> u32
     n - 1
 }
 
-// Rule 7: the last pixel's line and column are in the window.
+// Rule 7, as the manual speaks: the last pixel's line is one of the window's lines, and its clock one of the window's clocks.
 fn in_window(s: Capture, f: Scan) -> bool
     ensures { λ r. ⌜ r ≡ capture-rules.in-window s f ⌝ }
 {
     let line = less_one(f.lines);
-    let column = less_one(f.pixels);
-    if within(
-        window::vst(s.registers.cwstrt),
-        window::vline(s.registers.cwsize),
-        line,
-    ) {
-        return within(
-            window::hoffcnt(s.registers.cwstrt),
-            window::capcnt(s.registers.cwsize),
-            column,
-        );
+    let clock = less_one(f.pixels);
+    let first_line = window::vst(s.registers.cwstrt);
+    let number_of_lines = window::vline(s.registers.cwsize) + 1;
+    if one_of(first_line, number_of_lines, line) {
+        let first_clock = window::hoffcnt(s.registers.cwstrt);
+        let number_of_clocks = window::capcnt(s.registers.cwsize) + 1;
+        return one_of(first_clock, number_of_clocks, clock);
     }
     false
 }

@@ -3,9 +3,8 @@
 use mathlib.Core.Bool.{Bool, cond, not, _&&_, _||_, Bool·beq}
 use mathlib.Core.Option.{Option, none, some}
 use Prim.Native.Nat.{ℕ, _+_, _-_, _%_}
-use lib.Dec.{eqb, ltb, leb}
+use lib.Dec.{eqb, ltb}
 use Rattle.registers.specs.Control.{capture, snapshot, crop, pckpol, hspol, vspol, fcrc, edm, enable}
-use Rattle.registers.specs.Window.{vst, hoffcnt, vline, capcnt}
 use Rattle.samples.specs.Samples.{pixel-data, hsync-pin, vsync-pin, clock-pin}
 use Rattle.packing.specs.Packing.{per-word, joined}
 use Rattle.rules.specs.declared.Syncs.{Syncs}
@@ -13,6 +12,7 @@ use Rattle.rules.specs.declared.Scan.{Scan}
 use Rattle.rules.specs.declared.Frame.{Frame}
 use Rattle.rules.specs.declared.Frame.the-variants.{Closed, Open}
 use Rattle.rules.specs.declared.Capture.{Capture}
+use Rattle.rules.specs.CropWindow.{inside}
 use Rattle.rules.specs.State.{no-partial, raise, clear-capture, close-frame, with-pins, with-syncs, with-frame, with-rate, with-partial}
 
 -- What the rules 2 to 8 make of a sample: the state after it, and the full word if there is one.
@@ -103,15 +103,9 @@ next-pixel s f =
     (record { lines = f .lines + 1; pixels = 1 })
     (record { lines = f .lines; pixels = f .pixels + 1 })
 
--- Rule 7 (004, 32.3.8, 32.5.9, 32.5.10): from a first one, that one and as many more as the register says.
-unfoldable pub within : ℕ → ℕ → ℕ → Bool
-within start more x = leb start x && leb x (start + more)
-
--- The last pixel's line and column count from 0.
+-- Rule 7 (004, 32.3.8): the last pixel's line and column, counted from 0, are in the crop window.
 unfoldable pub in-window : Capture → Scan → Bool
-in-window s f =
-    within (vst (s .registers .cwstrt)) (vline (s .registers .cwsize)) (f .lines - 1) &&
-    within (hoffcnt (s .registers .cwstrt)) (capcnt (s .registers .cwsize)) (f .pixels - 1)
+in-window s f = inside (s .registers) (f .lines - 1) (f .pixels - 1)
 
 unfoldable pub captured : Capture → Bool → Scan → Bool
 captured s taken f = taken && (not (crop (s .registers .cr)) || in-window s f)

@@ -1,4 +1,5 @@
 pub mod State
+pub mod CropWindow
 pub mod Capture
 pub mod Answers
 pub mod WellFormed
