@@ -24,8 +24,8 @@ use Rattle.rules.specs.State.{output-of, fresh, with-cr, with-ris, with-ier, wi
 use Rattle.rules.specs.RegisterCalls.{write-control, clear-flags, write-register, write-at, write-refusal, write, rearmed, rearm}
 use Rattle.rules.specs.Run.{after-word, full-word, complete, after-grant, counted, step, steps, run-refusal, run, sample}
 use Rattle.rules.specs.WellFormed.{malformed}
-use Rattle.laws.specs.Histories.{Call, a-write, a-rearming, a-run, a-sample, after, after-all, reached}
-use Rattle.laws.specs.Ledger.{Event, sampled, disabled, samplings, accepted-samplings, samplings-of, disabling-of, events, events-of-all, history, Ledger, blank, sample-entry, landing-entry, word-entry, disabling-entry, enter, enter-all, ledger, numbers}
+use Rattle.laws.specs.Histories.{Call, a-write, a-rearming, a-run, a-sample, after, after-all, reached, Event, sampled, disabled, samplings, accepted-samplings, samplings-of, disabling-of, events, events-of-all, history}
+use Rattle.laws.specs.Ledger.{Ledger, blank, sample-entry, landing-entry, word-entry, disabling-entry, enter, enter-all, ledger, numbers}
 use Rattle.laws.proofs.KeepsSample.{step-enable}
 
 -- Rule 1.
@@ -55,7 +55,7 @@ complete-counted (some v) s x =
     refl
 
 step-counted : (d : Device) (b : List ℕ) (w : ℕ)
-    → enter (numbers (d .core .output)) (sampled (step d b w .landing) (step d b w .packed)) ≡ numbers (step d b w .device .core .output)
+    → enter (numbers (d .core .output)) (sampled (d .core .capture) w (step d b w .landing) (step d b w .packed)) ≡ numbers (step d b w .device .core .output)
 unfolding step after-grant counted count-sample with-counts enter sample-entry Landed
 step-counted d b w =
     rw (grant-landed (bus-grant w) (enable (d .core .capture .registers .cr)) (counted (output-of d)) b) (complete-counted _ _ _)

@@ -1,11 +1,17 @@
 -- Every list of calls from reset, in any order: register writes, re-arming, runs and single samples, each with whatever memory and
--- start byte it is lent. A refused call changes nothing, so the list stands for its accepted calls.
-use mathlib.Core.List.{List, [], _∷_}
+-- start byte it is lent. A refused call changes nothing, so the list stands for its accepted calls. And the events of such a list, in order.
+use mathlib.Core.Bool.{cond, not, _&&_}
+use mathlib.Core.List.{List, [], _∷_, _++_}
+use mathlib.Core.Option.{Option}
 use Prim.Native.Nat.{ℕ, _<_, _^_}
+use lib.Dec.{eqb}
+use lib.ListN.{drop}
+use Rattle.registers.specs.Control.{enable}
+use Rattle.rules.specs.declared.Capture.{Capture}
 use Rattle.rules.specs.declared.Device.{Device}
 use Rattle.rules.specs.State.{fresh}
 use Rattle.rules.specs.RegisterCalls.{write, rearm}
-use Rattle.rules.specs.Run.{run, sample}
+use Rattle.rules.specs.Run.{Packed, step, run-refusal, run, sample}
 
 -- A call. The value of a write is a 32-bit number.
 pub data Call : Type 0 where
@@ -27,3 +33,40 @@ after-all d (c ∷ cs) = after-all (after d c) cs
 
 abbrev pub reached : List Call → Device
 reached cs = after-all fresh cs
+
+-- An event: an accepted sample, with the capture state that it found and its two answers; or ENABLE going from 1 to 0.
+pub data Event : Type 0 where
+  sampled : (found : Capture) (w : ℕ) (landing : Option ℕ) (packed : Packed) → Event
+  disabled : Event
+
+-- Some samples, an event for each.
+unfoldable pub samplings : Device → List ℕ → List ℕ → List Event
+samplings d buffer [] = []
+samplings d buffer (w ∷ ws) =
+    let r = step d buffer w in
+    sampled (d .core .capture) w (r .landing) (r .packed) ∷ samplings (r .device) (r .buffer) ws
+
+-- The samples of a call, a run's too. A refused call has no event.
+unfoldable pub accepted-samplings : Device → List ℕ → ℕ → List ℕ → List Event
+accepted-samplings d memory start samples = cond (eqb (run-refusal d memory start samples) 0) (samplings d (drop start memory) samples) []
+
+unfoldable pub samplings-of : Device → Call → List Event
+samplings-of d (a-write offset value fits) = []
+samplings-of d a-rearming = []
+samplings-of d (a-run memory start samples) = accepted-samplings d memory start samples
+samplings-of d (a-sample memory start w) = accepted-samplings d memory start (w ∷ [])
+
+-- ENABLE was 1 before a call, in d, and is 0 after it, in d′.
+unfoldable pub disabling-of : Device → Device → List Event
+disabling-of d d′ = cond (enable (d .core .capture .registers .cr) && not (enable (d′ .core .capture .registers .cr))) (disabled ∷ []) []
+
+-- The events of a call, and of a list of calls.
+unfoldable pub events : Device → Call → List Event
+events d c = samplings-of d c ++ disabling-of d (after d c)
+
+unfoldable pub events-of-all : Device → List Call → List Event
+events-of-all d [] = []
+events-of-all d (c ∷ cs) = events d c ++ events-of-all (after d c) cs
+
+abbrev pub history : List Call → List Event
+history cs = events-of-all fresh cs
