@@ -1,19 +1,19 @@
 -- RIS stays at most 31, a period of the rate counter is short, and a working edge goes by whether a sync blanks. Assumes nothing.
-use mathlib.Core.Bool.{Bool, true, false, not, _&&_}
+use mathlib.Core.Bool.{Bool, true, false, not, _&&_, _||_}
 use mathlib.Core.Path.{_≡_, refl, ap}
 use Prim.Native.Nat.{ℕ, _≤_}
 use native.Mathlib.Omega.{arith}
-use lib.Dec.{eqb}
-use Rattle.registers.specs.Control.{fcrc}
+use lib.Dec.{eqb, leb}
+use Rattle.registers.specs.Control.{crop, fcrc}
 use Rattle.rules.specs.declared.Syncs.{Syncs}
+use Rattle.rules.specs.declared.Scan.{Scan}
 use Rattle.rules.specs.declared.Frame.{Frame}
 use Rattle.rules.specs.declared.Frame.the-variants.{Closed, Open}
 use Rattle.rules.specs.declared.Capture.{Capture}
+use Rattle.rules.specs.CropWindow.{lines-to-window-end}
 use Rattle.rules.specs.State.{not-blanking, raise, with-registers, with-ris, with-pins, with-syncs}
-use Rattle.rules.specs.Capture.{no-word, vsync-flag, line-flag, sync-flags, frame-end, rate-period, frame-start, blanking, remember-pins, any-blanks, pixel-in, pixel-edge, remember-syncs, at-edge}
-use Rattle.bits.proofs.Booleans.{or-false}
-use Rattle.rules.proofs.Booleans.{imp-and-false}
-use Rattle.bits.proofs.Booleans.{either}
+use Rattle.rules.specs.Capture.{no-word, vsync-flag, line-flag, sync-flags, window-ended, hsync-after-window, frame-rises, frame-flag, frame-closes, frame-end, rate-period, frame-start, blanking, remember-pins, any-blanks, pixel-in, pixel-edge, remember-syncs, at-edge}
+use Rattle.bits.proofs.Booleans.{or-false, and-zero, either}
 use Rattle.rules.proofs.WellFormed.{CaptureOk}
 use Rattle.laws.proofs.CaptureParts.{pins-syncs-ok}
 use Rattle.laws.proofs.RegisterValues.{raised-fits}
@@ -49,12 +49,22 @@ unfolding at-edge pixel-edge
 blanked-edge s now x blanks = ap (remember-syncs now) (no-pixel _ _ now x blanks)
 
 -- Where neither blanks no flag rises and no frame ends.
+no-rise : (s : Capture) (f : Scan) → frame-rises s f not-blanking ≡ false
+unfolding frame-rises hsync-after-window
+no-rise s f =
+    let none : not (window-ended s f) && (leb (lines-to-window-end (s .registers)) (f .lines) && false || false) ≡ false =
+    rw (and-zero (leb (lines-to-window-end (s .registers)) (f .lines)), and-zero (not (window-ended s f))) in
+    either (λ (b : Bool). b ≡ false) (crop (s .registers .cr)) none refl
+
+no-frame-flag : (frame : Frame) (s : Capture) → frame-flag frame s not-blanking ≡ s
+unfolding frame-flag
+no-frame-flag Closed s = refl
+no-frame-flag (Open taken f) s = rw (no-rise s f, and-zero taken)
+
 pub plain-edge : (s : Capture) (x : ℕ)
     → at-edge s not-blanking x ≡ remember-syncs not-blanking (pixel-in (frame-start s not-blanking .frame) (frame-start s not-blanking) not-blanking x)
-unfolding at-edge pixel-edge frame-end sync-flags line-flag vsync-flag
-plain-edge s x =
-    let no-flag : (blanked : Bool) → (not blanked && false) ≡ false = λ blanked. imp-and-false (not blanked) false (λ e. refl) in
-    rw (no-flag (s .syncs .vsync), no-flag (s .syncs .hsync))
+unfolding at-edge pixel-edge frame-end frame-closes sync-flags line-flag vsync-flag
+plain-edge s x = rw (and-zero (not (s .syncs .vsync)), and-zero (not (s .syncs .hsync)), no-frame-flag (s .frame) s)
 
 pub neither : (now : Syncs) → any-blanks now ≡ false → now ≡ not-blanking
 neither now e =

@@ -2,10 +2,12 @@
 ghost use mathlib.Core.Path.{_≡_};
 ghost use Prim.Native.Nat.{_+_, _<_, _≤_, _^_};
 ghost use Rattle.rules.specs.State as state;
+ghost use Rattle.rules.specs.CropWindow as crop-window;
 ghost use Rattle.rules.specs.Capture as capture-rules;
 use crate::apart;
 use crate::syncs::raise_frame;
 use registers::control;
+use registers::window;
 use rules::Capture;
 use rules::Frame;
 use rules::Partial;
@@ -50,27 +52,85 @@ pub fn close_frame(s: Capture) -> Capture
     }
 }
 
-// Rule 4: a taken frame that ends raises FRAME, and with CM 1 CAPTURE becomes 0.
-fn frame_captured(s: Capture) -> Capture
-    requires { ⌜ s .registers .ris ≤ 31 ⌝ }
-    ensures { λ r. ⌜ r ≡ capture-rules.frame-captured s ⌝ }
+// Rule 4, W1: the lines of a frame up to the crop window's last.
+fn lines_to_window_end(s: Capture) -> u32
+    ensures { λ r. ⌜ r ≡ crop-window.lines-to-window-end (s .registers) ⌝ }
 {
-    let s = apart(s);
-    if control::snapshot(s.registers.cr) {
-        return clear_capture(raise_frame(s));
-    }
-    raise_frame(s)
+    let number_of_lines = window::vline(s.registers.cwsize) + 1;
+    window::vst(s.registers.cwstrt) + number_of_lines
 }
 
-fn end_of(frame: Frame, s: Capture) -> Capture
+// Rule 4, W1: that line has ended.
+fn window_ended(s: Capture, f: Scan) -> bool
+    ensures { λ r. ⌜ r ≡ capture-rules.window-ended s f ⌝ }
+{
+    let lines = lines_to_window_end(s);
+    if lines < f.lines {
+        return true;
+    }
+    if f.lines == lines {
+        return s.syncs.hsync;
+    }
+    false
+}
+
+// Rule 4, W1: HSYNC blanks after that line.
+fn hsync_after_window(s: Capture, f: Scan, now: Syncs) -> bool
+    ensures { λ r. ⌜ r ≡ capture-rules.hsync-after-window s f now ⌝ }
+{
+    if lines_to_window_end(s) <= f.lines {
+        return now.hsync;
+    }
+    false
+}
+
+// Rule 4: when FRAME rises in a taken frame. With CROP 0 at frame end, with CROP 1 (W1) at the end of the window's last line, or at frame end if that line never ended.
+fn frame_rises(s: Capture, f: Scan, now: Syncs) -> bool
+    ensures { λ r. ⌜ r ≡ capture-rules.frame-rises s f now ⌝ }
+{
+    if control::crop(s.registers.cr) {
+        if window_ended(s, f) {
+            return false;
+        }
+        if hsync_after_window(s, f, now) {
+            return true;
+        }
+        return now.vsync;
+    }
+    now.vsync
+}
+
+// Rule 4: FRAME.
+fn frame_flag(frame: Frame, s: Capture, now: Syncs) -> Capture
     requires { ⌜ s .registers .ris ≤ 31 ⌝ }
+    ensures { λ r. ⌜ r ≡ capture-rules.frame-flag frame s now ⌝ }
+{
+    match frame {
+        Frame::Closed => s,
+        Frame::Open(taken, f) => {
+            if taken {
+                if frame_rises(s, f, now) {
+                    return raise_frame(s);
+                }
+                return s;
+            }
+            s
+        }
+    }
+}
+
+// Rule 4: the end of a frame; of a taken one CAPTURE becomes 0 with CM 1.
+fn end_of(frame: Frame, s: Capture) -> Capture
     ensures { λ r. ⌜ r ≡ capture-rules.end-of frame s ⌝ }
 {
     match frame {
         Frame::Closed => s,
         Frame::Open(taken, _) => {
             if taken {
-                return close_frame(frame_captured(s));
+                if control::snapshot(s.registers.cr) {
+                    return close_frame(clear_capture(s));
+                }
+                return close_frame(s);
             }
             close_frame(s)
         }
@@ -78,15 +138,24 @@ fn end_of(frame: Frame, s: Capture) -> Capture
 }
 
 // Rule 4: an open frame closes when VSYNC blanks.
-pub fn frame_end(s: Capture, now: Syncs) -> Capture
-    requires { ⌜ s .registers .ris ≤ 31 ⌝ }
-    ensures { λ r. ⌜ r ≡ capture-rules.frame-end s now ⌝ }
+fn frame_closes(s: Capture, now: Syncs) -> Capture
+    ensures { λ r. ⌜ r ≡ capture-rules.frame-closes s now ⌝ }
 {
     let frame = s.frame;
     if now.vsync {
         return end_of(frame, s);
     }
     s
+}
+
+// Rule 4: FRAME, and then the frame's end.
+pub fn frame_end(s: Capture, now: Syncs) -> Capture
+    requires { ⌜ s .registers .ris ≤ 31 ⌝ }
+    ensures { λ r. ⌜ r ≡ capture-rules.frame-end s now ⌝ }
+{
+    let frame = s.frame;
+    let flagged = frame_flag(frame, s, now);
+    frame_closes(flagged, now)
 }
 
 // The period of the rate counter.

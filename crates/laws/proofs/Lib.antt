@@ -10,3 +10,8 @@ pub mod KeepsWrites
 pub mod Conservation
 pub mod CountsFromHistory
 pub mod Flags
+pub mod WindowLines
+pub mod FrameEdges
+pub mod FrameHistory
+pub mod FrameFlag
+pub mod Before

@@ -9,7 +9,7 @@ use native.Mathlib.Omega.{arith}
 use lib.Dec.{eqb}
 use borrow.Author.Tests.{eqb-true, eqb-false, ne-eqb, not-false}
 use Rattle.bits.specs.Bits.{bit, field}
-use Rattle.registers.specs.Control.{capture, jpeg, embedded, fcrc, edm, enable, unsupported}
+use Rattle.registers.specs.Control.{capture, crop, jpeg, embedded, fcrc, edm, enable, unsupported}
 use Rattle.registers.specs.Map.{reserved-set}
 use Rattle.registers.specs.declared.Register.the-variants.{Control, InterruptEnable, WindowStart, WindowSize}
 use Rattle.rules.specs.declared.Registers.{Registers}
@@ -106,6 +106,9 @@ same-fcrc x y h = omega arith
 
 pub same-edm : (x y : ℕ) → field 13 1 x ≡ field 13 1 y → edm x ≡ edm y
 same-edm x y h = omega arith
+
+pub same-crop : (x y : ℕ) → field 13 1 x ≡ field 13 1 y → crop x ≡ crop y
+same-crop x y h = let same : x / 2 ^ 2 % 2 ≡ y / 2 ^ 2 % 2 = omega arith in rw same
 
 -- What refusals 4 and 5 exclude, test by test.
 abbrev pub tests : Registers → List Bool

@@ -51,7 +51,7 @@ rest-ok s allowed ris ier r =
       pixels = rw (r .closed) (omega arith);
     }
 
-closed-frame : (f : Frame) → is-open f ≡ false → f ≡ Closed
+pub closed-frame : (f : Frame) → is-open f ≡ false → f ≡ Closed
 closed-frame Closed e = refl
 closed-frame (Open taken f) e = absurd (true≢false e)
 
@@ -87,6 +87,11 @@ put v s = with-registers (with-cr v (s .registers)) s
 abbrev Written : ℕ → ℕ → Bool → Capture → Type 0
 Written n v rises t = CaptureOk n (put v (switch-capture rises t))
 
+-- Where ENABLE is 1 an accepted write leaves the setup.
+pub setup-stays : (cr v : ℕ) → enable cr && changes-setup cr v ≡ false → enable cr ≡ true → field 13 1 v ≡ field 13 1 cr
+unfolding changes-setup
+setup-stays cr v e on = sym (eqb-true _ _ (not-false _ (or-false _ _ (and-false _ _ e on) .0)))
+
 module _ {n : ℕ} (v : ℕ) (reserved : reserved-set Control v ≡ false) (supported : unsupported v ≡ false) (s : Capture) (h : CaptureOk n s) where
   put-rest : (t : Capture) → t .registers ≡ s .registers → Rest t → CaptureOk n (put v t)
   unfolding with-registers with-cr
@@ -101,12 +106,7 @@ module _ {n : ℕ} (v : ℕ) (reserved : reserved-set Control v ≡ false) (supp
       (put-rest (with-rate 0 t) same (record { closed = r .closed; count = r .count; bits = r .bits; rate = refl }))
       (put-rest t same r)
 
-  -- ENABLE was 1, and with it the setup stays: it stays 1, or it falls.
-  setup-stays : enable (s .registers .cr) && changes-setup (s .registers .cr) v ≡ false → enable (s .registers .cr) ≡ true
-      → field 13 1 v ≡ field 13 1 (s .registers .cr)
-  unfolding changes-setup
-  setup-stays e on = sym (eqb-true _ _ (not-false _ (or-false _ _ (and-false _ _ e on) .0)))
-
+  -- ENABLE was 1: it stays 1, or it falls.
   steady-written : (rises : Bool) → enable v ≡ enable (s .registers .cr) → field 13 1 v ≡ field 13 1 (s .registers .cr) → Written n v rises s
   unfolding switch-capture with-rate with-cr
   steady-written rises on setup =
@@ -137,5 +137,5 @@ module _ {n : ℕ} (v : ℕ) (reserved : reserved-set Control v ≡ false) (supp
   write-control-ok e =
       let rises = capture-rises v s in
       by-cond (Written n v rises) (enable (s .registers .cr)) _ _
-      (λ on. was-on rises on (setup-stays e on))
+      (λ on. was-on rises on (setup-stays (s .registers .cr) v e on))
       (λ off. was-off rises (idle-rest s h off))

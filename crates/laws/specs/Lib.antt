@@ -1,2 +1,4 @@
 pub mod Histories
 pub mod Ledger
+pub mod FrameHistory
+pub mod Before

@@ -187,7 +187,7 @@ mistakes =
     (CWSTRT ≔ 0x10000 ∷ CWSIZE ≔ 0x10000 ∷ CR ≔ 0x48E7 ∷ [])
     (edges (blank ∷ 1 ∷ 2 ∷ line-gap ∷ 3 ∷ 4 ∷ line-gap ∷ 5 ∷ 6 ∷ line-gap ∷ 7 ∷ 8 ∷ []) ++ granted line-gap)
     []
-    (leaves (0 ∷ 0 ∷ 0 ∷ 0 ∷ []) (0x00050003 ∷ []) 0 0 0x48E7 0x18 1) ∷
+    (leaves (0 ∷ 0 ∷ 0 ∷ 0 ∷ []) (0x00050003 ∷ []) 0 0 0x48E7 0x19 1) ∷
     -- continuous mode: a word lands, the frame overruns, and the next frame's word goes to the next place
     case
     (CR ≔ 0x48E1 ∷ [])
@@ -249,7 +249,7 @@ by-rule =
     (CWSTRT ≔ 0x10000 ∷ CWSIZE ≔ 1 ∷ CR ≔ 0x48E7 ∷ [])
     (edges (frame-gap ∷ 1 ∷ 2 ∷ line-gap ∷ 3 ∷ 4 ∷ line-gap ∷ 5 ∷ 6 ∷ []) ++ granted line-gap)
     []
-    (leaves (0 ∷ 0 ∷ 0 ∷ 0 ∷ []) (0x00040003 ∷ []) 0 0 0x48E7 0x18 1) ∷
+    (leaves (0 ∷ 0 ∷ 0 ∷ 0 ∷ []) (0x00040003 ∷ []) 0 0 0x48E7 0x19 1) ∷
     -- rule 6: lines and columns count from 0 again in the next frame; VST 0, VLINE 0, HOFFCNT 0, CAPCNT 1
     case
     (CWSIZE ≔ 1 ∷ CR ≔ 0x48E5 ∷ [])
@@ -263,10 +263,10 @@ by-rule =
     granted line-gap ++
     granted line-gap)
     []
-    (leaves (0 ∷ 0 ∷ 0 ∷ 0 ∷ []) (0x000A0009 ∷ 0x000C000B ∷ []) 0 0 0x48E7 0x18 1) ∷
+    (leaves (0 ∷ 0 ∷ 0 ∷ 0 ∷ []) (0x000A0009 ∷ 0x000C000B ∷ []) 0 0 0x48E7 0x19 1) ∷
     -- rule 7: lines 0 and 1, columns 0 and 1, of lines 0 to 2
     case (CWSIZE ≔ 0x10001 ∷ CR ≔ 0x48E7 ∷ []) (edges (blank ∷ 1 ∷ 2 ∷ line-gap ∷ 3 ∷ 4 ∷ line-gap ∷ 5 ∷ 6 ∷ [])) []
-    (leaves (0 ∷ 0 ∷ 0 ∷ []) [] 2 0 0x48E7 0x18 4) ∷
+    (leaves (0 ∷ 0 ∷ 0 ∷ []) [] 2 0 0x48E7 0x19 4) ∷
     -- rule 7: the top bits of VST, of HOFFCNT, and of VLINE and CAPCNT
     case (CWSTRT ≔ 0x10000000 ∷ CWSIZE ≔ 1 ∷ CR ≔ 0x48E7 ∷ []) (edges (blank ∷ 1 ∷ 2 ∷ [])) []
     (leaves (0 ∷ 0 ∷ 0 ∷ 0 ∷ []) [] 0 0 0x48E7 0x18 0) ∷

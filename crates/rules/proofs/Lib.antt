@@ -3,3 +3,4 @@ pub mod Booleans
 pub mod WellFormed
 pub mod BenchSheet
 pub mod CropWindow
+pub mod RequestSheet

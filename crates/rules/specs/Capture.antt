@@ -3,7 +3,7 @@
 use mathlib.Core.Bool.{Bool, cond, not, _&&_, _||_, Bool·beq}
 use mathlib.Core.Option.{Option, none, some}
 use Prim.Native.Nat.{ℕ, _+_, _-_, _%_}
-use lib.Dec.{eqb, ltb}
+use lib.Dec.{eqb, ltb, leb}
 use Rattle.registers.specs.Control.{capture, snapshot, crop, pckpol, hspol, vspol, fcrc, edm, enable}
 use Rattle.samples.specs.Samples.{pixel-data, hsync-pin, vsync-pin, clock-pin}
 use Rattle.packing.specs.Packing.{per-word, joined}
@@ -12,7 +12,7 @@ use Rattle.rules.specs.declared.Scan.{Scan}
 use Rattle.rules.specs.declared.Frame.{Frame}
 use Rattle.rules.specs.declared.Frame.the-variants.{Closed, Open}
 use Rattle.rules.specs.declared.Capture.{Capture}
-use Rattle.rules.specs.CropWindow.{inside}
+use Rattle.rules.specs.CropWindow.{lines-to-window-end, inside}
 use Rattle.rules.specs.State.{no-partial, raise, clear-capture, close-frame, with-pins, with-syncs, with-frame, with-rate, with-partial}
 
 -- What the rules 2 to 8 make of a sample: the state after it, and the full word if there is one.
@@ -55,17 +55,38 @@ line-flag s now = cond (not (s .syncs .hsync) && now .hsync) (raise 4 s) s
 unfoldable pub sync-flags : Capture → Syncs → Capture
 sync-flags s now = line-flag (vsync-flag s now) now
 
--- Rule 4 (004, 32.5.3 FRAME_RIS, 32.3.7): a taken frame that ends raises FRAME, and with CM 1 CAPTURE becomes 0.
-unfoldable pub frame-captured : Capture → Capture
-frame-captured s = cond (snapshot (s .registers .cr)) (clear-capture (raise 0 s)) (raise 0 s)
+-- Rule 4, W1 (004, 32.5.3 FRAME_RIS): the crop window's last line, VST + VLINE, has ended: HSYNC has blanked at a working edge since it began. Either more lines have
+-- begun, or just those up to it and HSYNC blanked at the last working edge; that this is the history of the frame is a law (crate laws, `window-ended-is-history`).
+unfoldable pub window-ended : Capture → Scan → Bool
+window-ended s f =
+    ltb (lines-to-window-end (s .registers)) (f .lines) || (eqb (f .lines) (lines-to-window-end (s .registers)) && s .syncs .hsync)
 
+-- Rule 4, W1: HSYNC blanks after that line.
+unfoldable pub hsync-after-window : Capture → Scan → Syncs → Bool
+hsync-after-window s f now = leb (lines-to-window-end (s .registers)) (f .lines) && now .hsync
+
+-- Rule 4 (004, 32.5.3 FRAME_RIS): when FRAME rises in a taken frame. With CROP 0 at frame end, where VSYNC blanks. With CROP 1 (W1) where HSYNC blanks after the window's
+-- last line, once in a frame; at frame end if that line never ended.
+unfoldable pub frame-rises : Capture → Scan → Syncs → Bool
+frame-rises s f now =
+    cond (crop (s .registers .cr)) (not (window-ended s f) && (hsync-after-window s f now || now .vsync)) (now .vsync)
+
+unfoldable pub frame-flag : Frame → Capture → Syncs → Capture
+frame-flag Closed s now = s
+frame-flag (Open taken f) s now = cond (taken && frame-rises s f now) (raise 0 s) s
+
+-- Rule 4 (004, 32.3.7): of a taken frame that ends CAPTURE becomes 0 with CM 1; a partial word is dropped.
 unfoldable pub end-of : Frame → Capture → Capture
 end-of Closed s = s
-end-of (Open taken f) s = close-frame (cond taken (frame-captured s) s)
+end-of (Open taken f) s = close-frame (cond (taken && snapshot (s .registers .cr)) (clear-capture s) s)
 
--- Rule 4 (004, 32.3.6): an open frame closes when VSYNC blanks; a partial word is dropped.
+-- Rule 4 (004, 32.3.6): an open frame closes when VSYNC blanks.
+unfoldable pub frame-closes : Capture → Syncs → Capture
+frame-closes s now = cond (now .vsync) (end-of (s .frame) s) s
+
+-- Rule 4: FRAME, and then the frame's end.
 unfoldable pub frame-end : Capture → Syncs → Capture
-frame-end s now = cond (now .vsync) (end-of (s .frame) s) s
+frame-end s now = frame-closes (frame-flag (s .frame) s now) now
 
 -- Rule 5 (004, 32.5.1 FCRC): the rate counter counts modulo 1, 2 or 4.
 unfoldable pub rate-period : ℕ → ℕ

@@ -13,6 +13,10 @@ first-line r = vst (r .cwstrt)
 abbrev pub number-of-lines : Registers → ℕ
 number-of-lines r = vline (r .cwsize) + 1
 
+-- The lines of a frame up to the window's last, which is line VST + VLINE: VST + VLINE + 1, since lines count from 0.
+abbrev pub lines-to-window-end : Registers → ℕ
+lines-to-window-end r = first-line r + number-of-lines r
+
 -- 32.5.9 HOFFCNT, 32.5.10 CAPCNT: the first pixel clock of a line, and the number of pixel clocks, CAPCNT + 1.
 abbrev pub first-clock : Registers → ℕ
 first-clock r = hoffcnt (r .cwstrt)

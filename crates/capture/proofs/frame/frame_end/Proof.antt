@@ -6,11 +6,7 @@ use Rattle.capture.proofs.frame.frame_end.Tie as tie
 
 returns : tie.Need-returns
 unfolding frame-end
-returns c = rw (← c .end-of .ensures, c .before .if1 .taken)
-
-returns-2 : tie.Need-returns-2
-unfolding frame-end
-returns-2 c = rw (c .if1 .left)
+returns c = rw (← c .before .frame-flag .ensures, ← c .frame-closes .ensures)
 
 pub frame-end-spec : {M : Type 1} → statement M
-frame-end-spec = tie.close (tie.spec (λ c κs. search needs) returns returns-2)
+frame-end-spec = tie.close (tie.spec (λ c κs. search needs) (λ c κs. search needs) returns)

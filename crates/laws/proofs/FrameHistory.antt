@@ -1,0 +1,190 @@
+-- FRAME and the window's last line (request W1), over every list of calls from reset, with writes between the samples: the test `window-ended` is what the history of the
+-- open frame says (`window-ended-is-history`), and rule 4 raises FRAME at most once in a frame (`frame-rises-once`), just once in a taken one that it ends (`frame-risen-at-the-end`).
+-- The idea: each sample and each write keeps the history told (`FrameEdges`); no write changes window or CROP while a frame is open. Assumes nothing.
+use mathlib.Core.Bool.{Bool, true, false, cond, not, _&&_}
+use mathlib.Core.List.{List, [], _∷_, _++_}
+use mathlib.Core.Option.{Option}
+use mathlib.Core.Path.{_≡_, refl}
+use Prim.Native.Nat.{ℕ, _≤_}
+use native.Mathlib.Omega.{arith}
+use lib.Dec.{eqb}
+use lib.ListN.{drop}
+use borrow.Author.Tests.{eqb-true}
+use Rattle.bits.proofs.Booleans.{and-unit, by-cond, either}
+use Rattle.registers.specs.Control.{enable}
+use Rattle.registers.specs.Map.{register-at}
+use Rattle.registers.specs.declared.Register.the-variants.{Control, Status, RawStatus, InterruptEnable, MaskedStatus, InterruptClear, WindowStart, WindowSize}
+use Rattle.registers.specs.declared.Found.{Found}
+use Rattle.registers.specs.declared.Found.the-variants.{At, Nothing}
+use Rattle.refusals.specs.Refusals.{_⇒_, first}
+use Rattle.refusals.proofs.Accepted.{accepted}
+use Rattle.samples.specs.Samples.{pixel-data}
+use Rattle.rules.specs.declared.Registers.{Registers}
+use Rattle.rules.specs.declared.Pins.{Pins}
+use Rattle.rules.specs.declared.Syncs.{Syncs}
+use Rattle.rules.specs.declared.Scan.{Scan}
+use Rattle.rules.specs.declared.Frame.{Frame}
+use Rattle.rules.specs.declared.Frame.the-variants.{Closed, Open}
+use Rattle.rules.specs.declared.Capture.{Capture}
+use Rattle.rules.specs.declared.Device.{Device}
+use Rattle.rules.specs.State.{fresh, fresh-capture, with-cr, with-ris, with-ier, with-cwstrt, with-cwsize, with-registers, with-pins, with-syncs, with-frame, with-rate, with-partial, close-frame}
+use Rattle.rules.specs.Capture.{no-word, working-edge, enabled, remember-pins, blanking, window-ended, hsync-after-window, frame-rises, starts, capture-sample, at-edge}
+use Rattle.rules.specs.RegisterCalls.{changes-setup, fixed-at, register-tests, enabling, disabling, switch-enable, capture-rises, switch-capture, write-control, clear-flags, write-register, write-at, write-refusal, write, rearmed, rearm}
+use Rattle.rules.specs.Run.{Packed, lose-frame, after-grant, step, steps, run-refusal, run, sample}
+use Rattle.rules.specs.WellFormed.{malformed}
+use Rattle.rules.proofs.WellFormed.{CaptureOk, facts}
+use Rattle.laws.specs.Histories.{Call, a-write, a-rearming, a-run, a-sample, after, after-all, reached, Event, sampled, samplings, accepted-samplings, samplings-of, disabling-of, events, events-of-all, history}
+use Rattle.laws.specs.FrameHistory.{FrameHistory, no-history, raises-frame, starts-frame, edge-entry, frame-entry, frame-entries, frame-history}
+use Rattle.laws.proofs.RegisterValues.{same-crop}
+use Rattle.laws.proofs.KeepsSample.{by-word}
+use Rattle.laws.proofs.WriteControl.{closed-frame, setup-stays}
+use Rattle.laws.proofs.Keeps.{fresh-well-formed}
+use Rattle.laws.proofs.Conservation.{call-keeps}
+use Rattle.laws.proofs.FrameEdges.{Told, Told-in, blanks, at-edge-told, ends-risen}
+
+-- At most once, whether a frame is open or not. Where none is, that is all that is told.
+told-once : (f : Frame) (n : ℕ) (cropped blanked : Bool) (h : FrameHistory) → Told-in f n cropped blanked h → h .risen ≤ 1
+told-once Closed n cropped blanked h told = told
+told-once (Open taken f) n cropped blanked h told = rw (told .1) (either (λ k. k ≤ 1) (taken && (cropped && h .ended)) (omega arith) (omega arith))
+
+once : (s : Capture) (h : FrameHistory) → Told s h → h .risen ≤ 1
+once s h told = told-once (s .frame) _ _ _ h told
+
+none-told : (s : Capture) (h : FrameHistory) → s .frame ≡ Closed → h .risen ≤ 1 → Told s h
+none-told s h e le = rw e le
+
+-- A sample. The remembered levels play no part.
+same-entry : (f : Frame) (s : Capture) (p : Pins) (now : Syncs) (h : FrameHistory) → s .frame ≡ f → edge-entry h (with-pins p s) now ≡ edge-entry h s now
+unfolding edge-entry starts-frame raises-frame with-pins window-ended hsync-after-window frame-rises starts
+same-entry Closed s p now h e = rw e
+same-entry (Open taken f) s p now h e = rw e
+
+sample-told : (s : Capture) (w : ℕ) (h : FrameHistory) → Told s h
+    → Told (capture-sample s w .state) (cond (working-edge s w && enabled s) (edge-entry h s (blanking s w)) h)
+unfolding capture-sample no-word remember-pins with-pins
+sample-told s w h told = go (working-edge s w && enabled s)
+  where
+    go : (goes-on : Bool) → Told (cond goes-on (at-edge (remember-pins w s) (blanking s w) (pixel-data w)) (no-word (remember-pins w s)) .state) (cond goes-on (edge-entry h s (blanking s w)) h)
+    go true = rw (← same-entry (s .frame) s (remember-pins w s .pins) (blanking s w) h refl) (at-edge-told (remember-pins w s) (blanking s w) (pixel-data w) h told)
+    go false = told
+
+step-told : (d : Device) (b : List ℕ) (w : ℕ) (h : FrameHistory) (landing : Option ℕ) (packed : Packed) → Told (d .core .capture) h
+    → Told (step d b w .device .core .capture) (frame-entry h (sampled (d .core .capture) w landing packed))
+unfolding step after-grant frame-entry lose-frame close-frame with-frame with-partial
+step-told d b w h landing packed told =
+    let s = d .core .capture in
+    let h′ = cond (working-edge s w && enabled s) (edge-entry h s (blanking s w)) h in
+    let after = sample-told s w h told in
+    by-word (λ (e : Device). Told (e .core .capture) h′) _ _ _ after (λ v. after) (λ v. once (capture-sample s w .state) h′ after)
+
+steps-told : (d : Device) (b ws : List ℕ) (h : FrameHistory) → Told (d .core .capture) h
+    → Told (steps d b ws .device .core .capture) (frame-entries h (samplings d b ws))
+unfolding steps samplings frame-entries
+steps-told d b [] h told = told
+steps-told d b (w ∷ ws) h told = steps-told (step d b w .device) (step d b w .buffer) ws _ (step-told d b w h _ _ told)
+
+-- A write of CR: where ENABLE is and stays 1, CROP stays; else no frame is open after it.
+control-told : {n : ℕ} (s : Capture) (v : ℕ) (h : FrameHistory) → CaptureOk n s → enable (s .registers .cr) && changes-setup (s .registers .cr) v ≡ false
+    → Told s h → Told (write-control v s) h
+unfolding write-control switch-capture switch-enable enabling disabling close-frame with-registers with-cr with-syncs with-frame with-rate with-partial
+control-told s v h ok free told =
+    let P : Capture → Type 0 = λ t. Told (with-registers (with-cr v (t .registers)) t) h in
+    let rated : (t : Capture) → P t → P (switch-capture (capture-rises v s) t) = λ t p. either P (capture-rises v s) p p in
+    let cr = s .registers .cr in
+    rated _
+    (by-cond P (enable cr) _ _
+    (λ on.
+    by-cond P (enable v) _ _
+    (λ stays. rw (same-crop v cr (setup-stays cr v free on)) told)
+    (λ falls. once s h told))
+    (λ off. either P (enable v) (once s h told) (none-told (with-registers (with-cr v (s .registers)) s) h (closed-frame (s .frame) (ok .idle off .0)) (once s h told))))
+
+-- A write of the window, with ENABLE 0 alone: no frame is open.
+window-told : {n : ℕ} (s : Capture) (r : Registers) (h : FrameHistory) → CaptureOk n s → enable (s .registers .cr) && true ≡ false → Told s h → Told (with-registers r s) h
+unfolding with-registers
+window-told s r h ok free told =
+    let off : enable (s .registers .cr) ≡ false = rw (and-unit (enable (s .registers .cr))) at free in
+    none-told (with-registers r s) h (closed-frame (s .frame) (ok .idle off .0)) (once s h told)
+
+write-at-told : {n : ℕ} (d : Device) (r : Found) (v : ℕ) (h : FrameHistory) → CaptureOk n (d .core .capture) → fixed-at (d .core .capture .registers .cr) r v ≡ false
+    → Told (d .core .capture) h → Told (write-at d r v .core .capture) h
+unfolding write-at write-register with-registers with-ier clear-flags with-ris
+write-at-told d Nothing v h ok free told = told
+write-at-told d (At Control) v h ok free told = control-told (d .core .capture) v h ok free told
+write-at-told d (At Status) v h ok free told = told
+write-at-told d (At RawStatus) v h ok free told = told
+write-at-told d (At InterruptEnable) v h ok free told = told
+write-at-told d (At MaskedStatus) v h ok free told = told
+write-at-told d (At InterruptClear) v h ok free told = told
+write-at-told d (At WindowStart) v h ok free told = window-told (d .core .capture) (with-cwstrt v (d .core .capture .registers)) h ok free told
+write-at-told d (At WindowSize) v h ok free told = window-told (d .core .capture) (with-cwsize v (d .core .capture .registers)) h ok free told
+
+write-told : (d : Device) (offset v : ℕ) (h : FrameHistory) → malformed d ≡ false → Told (d .core .capture) h → Told (write d offset v .device .core .capture) h
+unfolding write write-refusal
+write-told d offset v h formed told =
+    let tests = malformed d ⇒ 1 ∷ register-tests (d .core .capture .registers .cr) (register-at offset) v in
+    by-cond (λ (e : Device). Told (e .core .capture) h) (eqb (first tests) 0) _ _
+    (λ zero.
+    let (well, (there, (writable, (reserved, (supported, (free, end)))))) = accepted tests (omega arith) (eqb-true _ 0 zero) in
+    write-at-told d (register-at offset) v h (facts d formed .capture) free told)
+    (λ refused. told)
+
+-- Disabling is no entry.
+entries-append : (h : FrameHistory) (es fs : List Event) → frame-entries h (es ++ fs) ≡ frame-entries (frame-entries h es) fs
+unfolding frame-entries
+entries-append h [] fs = refl
+entries-append h (e ∷ es) fs = entries-append (frame-entry h e) es fs
+
+disabling-told : (d d′ : Device) (h : FrameHistory) → frame-entries h (disabling-of d d′) ≡ h
+unfolding frame-entries frame-entry disabling-of
+disabling-told d d′ h =
+    either (λ (es : List Event). frame-entries h es ≡ h) (enable (d .core .capture .registers .cr) && not (enable (d′ .core .capture .registers .cr))) refl refl
+
+-- Every call, and every list of calls.
+samples-told : (taken : Bool) (d : Device) (b ws : List ℕ) (h : FrameHistory) → Told (d .core .capture) h
+    → Told (cond taken (steps d b ws .device) d .core .capture) (frame-entries h (cond taken (samplings d b ws) []))
+unfolding frame-entries
+samples-told true d b ws h told = steps-told d b ws h told
+samples-told false d b ws h told = told
+
+call-told : (d : Device) (c : Call) (h : FrameHistory) → malformed d ≡ false → Told (d .core .capture) h → Told (after d c .core .capture) (frame-entries h (events d c))
+unfolding events samplings-of accepted-samplings after rearm rearmed run sample step steps frame-entries
+call-told d (a-write offset value fits) h formed told = rw (disabling-told d (write d offset value .device) h) (write-told d offset value h formed told)
+call-told d a-rearming h formed told = rw (disabling-told d (rearm d .device) h) (either (λ (e : Device). Told (e .core .capture) h) (eqb (first (malformed d ⇒ 1 ∷ [])) 0) told told)
+call-told d (a-run memory start samples) h formed told =
+    rw (entries-append, disabling-told d (run d memory start samples .device) _)
+    (samples-told (eqb (run-refusal d memory start samples) 0) d (drop start memory) samples h told)
+call-told d (a-sample memory start w) h formed told =
+    rw (entries-append, disabling-told d (sample d memory start w .device) _)
+    (samples-told (eqb (run-refusal d memory start (w ∷ [])) 0) d (drop start memory) (w ∷ []) h told)
+
+calls-told : (d : Device) (cs : List Call) (h : FrameHistory) → malformed d ≡ false → Told (d .core .capture) h
+    → Told (after-all d cs .core .capture) (frame-entries h (events-of-all d cs))
+unfolding after-all events-of-all frame-entries
+calls-told d [] h formed told = told
+calls-told d (c ∷ cs) h formed told = rw entries-append (calls-told (after d c) cs _ (call-keeps d c formed) (call-told d c h formed told))
+
+history-told : (cs : List Call) → Told (reached cs .core .capture) (frame-history (history cs))
+unfolding fresh fresh-capture no-history
+history-told cs = calls-told fresh cs no-history fresh-well-formed (omega arith)
+
+-- The test that rule 4 makes of the lines begun and of HSYNC at the last working edge is what the history of the open frame says.
+pub window-ended-is-history : (cs : List Call) (taken : Bool) (f : Scan) → reached cs .core .capture .frame ≡ Open taken f
+    → window-ended (reached cs .core .capture) f ≡ frame-history (history cs) .ended
+unfolding window-ended
+window-ended-is-history cs taken f e = (rw e at (history-told cs)) .0
+
+-- Rule 4 raises FRAME at most once in a frame.
+pub frame-rises-once : (cs : List Call) → frame-history (history cs) .risen ≤ 1
+frame-rises-once cs = once (reached cs .core .capture) (frame-history (history cs)) (history-told cs)
+
+-- And in a taken frame that VSYNC ends it has risen just once by then, there or before.
+pub frame-risen-at-the-end : (cs : List Call) (f : Scan) (w : ℕ) (landing : Option ℕ) (packed : Packed)
+    → let s = reached cs .core .capture in s .frame ≡ Open true f → working-edge s w && enabled s ≡ true → blanking s w .vsync ≡ true
+    → frame-entry (frame-history (history cs)) (sampled s w landing packed) .risen ≡ 1
+unfolding frame-entry
+frame-risen-at-the-end cs f w landing packed e goes-on ends =
+    let s = reached cs .core .capture in
+    let h = frame-history (history cs) in
+    let now : blanking s w ≡ blanks (blanking s w .hsync) true = λ i. record { hsync = blanking s w .hsync; vsync = ends i } in
+    rw (goes-on, now) (ends-risen true f s (blanking s w .hsync) h e (history-told cs))
