@@ -115,13 +115,22 @@ static inline void sync_flags(camera *c, uint32_t begins)
     if (begins & HSYNC) c->ris |= F_LINE;
 }
 
-/* Rule 4. Frame end, of an open frame when VSYNC blanks. */
-static inline void frame_end(camera *c)
+/* Rule 4, whether FRAME rises in a taken frame in which a sync blanks: at frame end. W1: with CROP 1 where HSYNC blanks after line VST + VLINE,
+ * once in a frame; at frame end if that line never ended. */
+static inline bool frame_rises(const camera *c, uint32_t blanked, uint32_t blanks)
 {
-    if (c->frame == FRAME_TAKEN) {
-        c->ris |= F_FRAME;
-        if (c->cr & CM) c->cr &= ~(uint32_t)CAPTURE;
-    }
+    const uint32_t lines = vst(c->cwstrt) + vline(c->cwsize) + 1; /* begun when that line is the last one */
+    if (!(c->cr & CROP) || c->lines < lines) return blanks & VSYNC;
+    return c->lines == lines && !(blanked & HSYNC); /* it runs, and either sync ends it */
+}
+
+/* Rule 4, of an open frame in which a sync blanks. It ends where VSYNC does; a snapshot's CAPTURE is cleared there, W1: also if FRAME rose before. */
+static inline void frame_blanks(camera *c, uint32_t blanked, uint32_t blanks)
+{
+    const bool taken = c->frame == FRAME_TAKEN;
+    if (taken && frame_rises(c, blanked, blanks)) c->ris |= F_FRAME;
+    if (!(blanks & VSYNC)) return;
+    if (taken && (c->cr & CM)) c->cr &= ~(uint32_t)CAPTURE;
     close_frame(c);
 }
 
@@ -206,7 +215,7 @@ static inline void step(camera *c, uint8_t *memory, size_t length, size_t start,
     sync_flags(c, blanks & ~blanked);
 
     /* Rule 4. */
-    if (c->frame != FRAME_CLOSED && (blanks & VSYNC)) frame_end(c);
+    if (blanks && c->frame != FRAME_CLOSED) frame_blanks(c, blanked, blanks);
 
     /* Rule 5. */
     if (c->frame == FRAME_CLOSED && (c->cr & CAPTURE) && (blanked & VSYNC) && !(blanks & VSYNC)) frame_start(c);

@@ -1,5 +1,6 @@
-/* The camera interface written a second time, in plain C, from the scope paper alone. The comparison and the benchmark measure the library
- * against it. "Rule n" in the comments is step n of "One sample"; a bare number that is returned is a refusal number of the paper's table. */
+/* The camera interface written a second time, in plain C, from the scope paper and the change requests alone. The comparison and the benchmark
+ * measure the library against it. "Rule n" in the comments is step n of "One sample", "Wn" a request; a bare number that is returned is a refusal
+ * number of the paper's table. */
 #ifndef MODEL_H
 #define MODEL_H
 
