@@ -103,6 +103,123 @@ static void paper_crop(void)
     expect_device("crop", 1, 0, 0, 0x18);
 }
 
+/* W1. Pixel clocks of a camera with all polarities 1; the working edge is the second sample. */
+static void clocks(unsigned count, uint32_t pins)
+{
+    for (unsigned i = 0; i < count; i++) {
+        check_sample(0, pins, NULL);
+        check_sample(0, 0x10000 | pins, NULL);
+    }
+}
+
+/* RIS after one more clock. */
+static void expect_flags(const char *what, uint32_t pins, uint32_t ris)
+{
+    clocks(1, pins);
+    expect_register(what, DCMI_RIS, ris);
+}
+
+enum { HBLANK = 0x4000, VBLANK = 0x8000 };
+
+/* 12 bits and a window whose last line is line 1, then one blank edge. */
+static void window_set_up(uint32_t cr, uint32_t cwstrt, uint32_t cwsize)
+{
+    check_reset();
+    lend_memory(16);
+    check_write(DCMI_CWSTRT, cwstrt);
+    check_write(DCMI_CWSIZE, cwsize);
+    expect("W1, setting up", 0, check_write(DCMI_CR, cr));
+    expect_flags("W1, blank edge", HBLANK | VBLANK, 0x18);
+}
+
+/* Lines 0 and 1 of three pixels; FRAME comes with the end of line 1 and not before. */
+static void two_lines(const char *what)
+{
+    clocks(3, 1);
+    expect_flags(what, HBLANK, 0x18);
+    clocks(3, 2);
+    check_sample(0, HBLANK, NULL);
+    expect_register(what, DCMI_RIS, 0x18);
+    check_sample(0, 0x10000 | HBLANK, NULL);
+    expect_register(what, DCMI_RIS, 0x19);
+}
+
+/* Continuous, lines 0 and 1, columns 0 and 1: FRAME once in each frame, also if it is cleared inside it. */
+static void paper_window_continuous(void)
+{
+    window_set_up(0x48E5, 0, 0x10001);
+    for (unsigned frame = 0; frame < 2; frame++) {
+        two_lines("W1, end of the window's last line");
+        expect("W1, the frame is open", 2, device()[DCMI_W_FRAME]);
+        check_write(DCMI_ICR, 1);
+        expect_flags("W1, HSYNC blanks on", HBLANK, 0x18);
+        expect_flags("W1, the next line begins", 3, 0x18);
+        expect_flags("W1, the next line ends", HBLANK, 0x18);
+        expect_flags("W1, frame end", HBLANK | VBLANK, 0x18);
+        expect("W1, the frame is closed", 0, device()[DCMI_W_FRAME]);
+    }
+    expect_device("W1, two words a frame", 0, 4, 0, 0x18);
+    expect_register("W1, CR", DCMI_CR, 0x48E5);
+}
+
+/* Snapshot, line 1 from column 3 on, so that nothing is captured: FRAME all the same, CAPTURE cleared at frame end. */
+static void paper_window_snapshot(void)
+{
+    window_set_up(0x48E7, 0x10003, 0);
+    two_lines("W1, nothing captured");
+    expect_register("W1, CAPTURE stays", DCMI_CR, 0x48E7);
+    check_write(DCMI_ICR, 1);
+    clocks(1, 3);
+    expect_flags("W1, frame end", VBLANK, 0x18);
+    expect_register("W1, CAPTURE cleared", DCMI_CR, 0x48E6);
+    expect_device("W1, no word", 0, 0, 0, 0x18);
+}
+
+/* With CROP 0, or in an untaken frame, the end of line 1 is nothing special. */
+static void paper_window_none(void)
+{
+    window_set_up(0x48E1, 0, 0x10001);
+    clocks(1, 1);
+    clocks(1, HBLANK);
+    clocks(1, 2);
+    expect_flags("W1, CROP 0", HBLANK, 0x18);
+    expect_flags("W1, frame end", HBLANK | VBLANK, 0x19);
+    window_set_up(0x49E5, 0, 0x10001); /* every second frame */
+    two_lines("W1, a taken frame");
+    check_write(DCMI_ICR, 1);
+    clocks(1, HBLANK | VBLANK);
+    clocks(1, 1);
+    clocks(1, HBLANK);
+    clocks(1, 2);
+    expect_flags("W1, an untaken frame", HBLANK, 0x18);
+    expect_flags("W1, its end", HBLANK | VBLANK, 0x18);
+}
+
+/* Line 1 never ends: it does not begin, it runs when VSYNC blanks, both syncs blank at once. Then an overrun in it. */
+static void paper_window_unended(void)
+{
+    window_set_up(0x48E7, 0, 0x10001);
+    clocks(1, 1);
+    expect_flags("W1, line 0 ends", HBLANK, 0x18);
+    expect_flags("W1, line 1 never begins", HBLANK | VBLANK, 0x19);
+    expect_register("W1, CAPTURE cleared", DCMI_CR, 0x48E6);
+    for (unsigned both = 0; both < 2; both++) {
+        window_set_up(0x48E7, 0, 0x10001);
+        clocks(1, 1);
+        clocks(1, HBLANK);
+        expect_flags("W1, line 1 runs", 2, 0x18);
+        expect_flags("W1, VSYNC blanks in line 1", both ? HBLANK | VBLANK : VBLANK, 0x19);
+        expect_register("W1, CAPTURE cleared", DCMI_CR, 0x48E6);
+    }
+    window_set_up(0x48E5, 0x10000, 9);
+    clocks(1, 1);
+    clocks(1, HBLANK);
+    clocks(9, 2);
+    expect_flags("W1, overrun in line 1", 2, 0x1A);
+    expect_flags("W1, end of line 1 after the overrun", HBLANK, 0x1A);
+    expect_flags("W1, frame end after the overrun", HBLANK | VBLANK, 0x1A);
+}
+
 static void paper_refusals(void)
 {
     check_reset();
@@ -160,6 +277,10 @@ static void paper_examples(void)
     pixels(10, true);
     expect_device("ten pixels, granted", 1, 4, 0, 0x18);
     paper_crop();
+    paper_window_continuous();
+    paper_window_snapshot();
+    paper_window_none();
+    paper_window_unended();
     paper_refusals();
     paper_memory();
     paper_file();
@@ -471,12 +592,28 @@ static void image_history(const uint32_t *image)
     check_read(DCMI_SR, NULL);
 }
 
+/* A working edge before the window's last line, in it and after it: HSYNC remembered as blanking or not, each sync blanking now or not. */
+static void window_edges(const uint32_t *image)
+{
+    uint32_t changed[DCMI_WORDS];
+    memcpy(changed, image, sizeof changed);
+    if (!image_window(changed)) return;
+    const uint32_t lines = changed[DCMI_W_LINES], working = ~changed[DCMI_W_CLOCK] & 1;
+    for (unsigned i = 0; i < 24; i++) {
+        changed[DCMI_W_LINES] = lines + i % 3;
+        changed[DCMI_W_HSYNC_BLANKED] = i / 3 % 2;
+        set_device(changed);
+        check_sample(good_start(), working << 16 | i / 6 << 14 | below(0x4000), NULL);
+    }
+}
+
 static void images_kind(void)
 {
     uint32_t image[DCMI_WORDS], changed[DCMI_WORDS];
     while (more()) {
         some_image(image);
         image_history(image);
+        if (chance(1, 2)) window_edges(image);
         for (unsigned n = below(12); n; n--) {
             memcpy(changed, image, sizeof changed);
             image_damage(changed);

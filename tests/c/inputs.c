@@ -226,6 +226,19 @@ void image_well_formed(uint32_t *w)
     if (w[DCMI_W_FRAME] == 2) image_partial(w);
 }
 
+bool image_window(uint32_t *w)
+{
+    if (chance(1, 2)) w[DCMI_W_CWSTRT] = random_u32() & 0x1FFF3FFF;
+    if (chance(1, 2)) w[DCMI_W_CWSIZE] = random_u32() & 0x3FFF3FFF;
+    const uint32_t last_line = (w[DCMI_W_CWSTRT] >> 16) + (w[DCMI_W_CWSIZE] >> 16);
+    if (!w[DCMI_W_FRAME] || w[DCMI_W_SAMPLES] < last_line + 2 || w[DCMI_W_SAMPLES] == UINT32_MAX) return false;
+    w[DCMI_W_CR] |= 0x4; /* CROP */
+    w[DCMI_W_RIS] &= ~UINT32_C(1);
+    w[DCMI_W_CLOCK] = ~w[DCMI_W_CR] >> 5 & 1; /* PCKPOL */
+    w[DCMI_W_LINES] = last_line;
+    return true;
+}
+
 /* Too many held words, the equation of counts kept. */
 static void image_overfull(uint32_t *w)
 {

@@ -43,6 +43,9 @@ uint32_t any_value(const uint32_t *device);
 
 /* A well-formed device, often at the bounds of what is well-formed. */
 void image_well_formed(uint32_t *image);
+/* One with an open frame gets CROP 1, FRAME 0, often another window, and the line before the window's last; the next sample can be a working edge.
+ * False if it has no open frame, or too few samples for so many lines. */
+bool image_window(uint32_t *image);
 /* One word becomes something else; the device is mostly malformed then. */
 void image_damage(uint32_t *image);
 /* Values for a word of an image that lie near a bound; returns how many. */

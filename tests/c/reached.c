@@ -30,11 +30,33 @@ const char *const call_name[CALLS] = {
     X(R3_BOTH, "rule 3: VSYNC and LINE raised at once") \
     X(R3_CAPTURE_0, "rule 3: a flag raised while CAPTURE is 0") \
     X(R3_STILL, "rule 3: both syncs blank as before") \
-    X(R4_TAKEN, "rule 4: end of a taken frame, CM 0, FRAME raised") \
-    X(R4_SNAPSHOT, "rule 4: end of a taken frame, CM 1, CAPTURE cleared") \
+    X(R4_TAKEN, "rule 4: end of a taken frame, CROP 0, CM 0, FRAME raised") \
+    X(R4_SNAPSHOT, "rule 4: end of a taken frame, CROP 0, FRAME raised, CAPTURE cleared") \
     X(R4_UNTAKEN, "rule 4: end of an untaken frame, FRAME stays 0") \
     X(R4_PARTIAL, "rule 4: a partial word dropped") \
     X(R4_NONE_OPEN, "rule 4: VSYNC blanks, no frame open") \
+    X(W1_EARLY, "W1: FRAME at the end of the window's last line, CM 0") \
+    X(W1_EARLY_SNAPSHOT, "W1: FRAME there, CM 1, CAPTURE stays 1") \
+    X(W1_EARLY_CAPTURE_0, "W1: FRAME there, CAPTURE 0") \
+    X(W1_EARLY_NOTHING, "W1: FRAME there, nothing was captured") \
+    X(W1_EARLY_PARTIAL, "W1: FRAME there, a partial word stays") \
+    X(W1_EARLY_HELD, "W1: FRAME there, held words stay") \
+    X(W1_EARLY_WIDE, "W1: FRAME there, VST + VLINE above 16,383") \
+    X(W1_EARLY_IMAGE, "W1: FRAME there, VSYNC was remembered as blanking") \
+    X(W1_EARLIER_LINE, "W1: an earlier line ends, FRAME stays 0") \
+    X(W1_LATER_LINE, "W1: a later line ends, FRAME is 0 and not raised again") \
+    X(W1_BLANKS_ON, "W1: HSYNC blanks on after that line, FRAME is 0, not raised again") \
+    X(W1_NEXT_LINE, "W1: the line after the window begins, FRAME is 0, not raised again") \
+    X(W1_UNTAKEN, "W1: end of the window's last line, untaken frame, FRAME stays 0") \
+    X(W1_CROP_0, "W1: HSYNC blanks after line VST + VLINE, CROP 0, FRAME stays 0") \
+    X(W1_END_NOT_BEGUN, "W1: frame end, the last line never began, FRAME raised") \
+    X(W1_END_RUNS, "W1: frame end, VSYNC alone blanks in the last line, FRAME raised") \
+    X(W1_END_BOTH, "W1: frame end, both syncs blank in the last line, FRAME raised") \
+    X(W1_END_SNAPSHOT, "W1: frame end, FRAME raised, CM 1, CAPTURE cleared") \
+    X(W1_END_ENDED, "W1: frame end after the last line, FRAME is 0, not raised again") \
+    X(W1_END_LATER, "W1: frame end after a later line, FRAME is 0, not raised again") \
+    X(W1_END_SNAPSHOT_ENDED, "W1: frame end, the last line had ended, CM 1, CAPTURE cleared") \
+    X(W1_OVERRUN, "W1: overrun in the window, FRAME stays 0") \
     X(R5_TAKEN, "rule 5: start of a taken frame, CM 0") \
     X(R5_UNTAKEN, "rule 5: start of an untaken frame") \
     X(R5_SNAPSHOT, "rule 5: start of a taken frame, CM 1") \
@@ -171,6 +193,7 @@ static void reached_word(const camera *before, const camera *after, bool line_be
     seen(!lost && landed && before->held == 4, R9_AFTER_GRANT);
     seen(lost && !(before->cr & CM), R9_OVERRUN);
     seen(lost && (cleared & CAPTURE), R9_OVERRUN_SNAPSHOT);
+    seen(lost && (before->cr & CROP) && !(after->ris & F_FRAME), W1_OVERRUN);
 }
 
 /* Rules 6 and 7, of a pixel: at a working edge in a frame that was open or starts, with no sync blanking. */
@@ -198,21 +221,62 @@ static void reached_pixel(const camera *before, const camera *after)
     if (captured) reached_word(before, after, begins);
 }
 
+/* Rule 4 with W1, of a frame that was open: FRAME and line VST + VLINE, the window's last. */
+static void reached_window(const camera *before, const camera *after)
+{
+    const uint32_t blanks = after->blanked, capture = before->cr & CAPTURE, cleared = before->cr & ~after->cr;
+    const uint32_t first_line = before->cwstrt >> 16, last_line = first_line + (before->cwsize >> 16), first_column = before->cwstrt & 0x3FFF;
+    const bool crop = before->cr & CROP, cm = before->cr & CM, taken = before->frame == FRAME_TAKEN, hsync = blanks == HSYNC;
+    const bool raised = after->ris & ~before->ris & F_FRAME, stays_0 = !((before->ris | after->ris) & F_FRAME);
+
+    /* How far the frame had come: no line after the window's last had begun, and it ran or had ended; or one had. */
+    const bool blanked = before->blanked & HSYNC, at_last = before->lines == last_line + 1, later = before->lines > last_line + 1;
+    const bool runs = at_last && !blanked, just_ended = at_last && blanked;
+
+    const bool early = taken && crop && runs && hsync && raised;
+    seen(early && !cm, W1_EARLY);
+    seen(early && cm && capture && !cleared, W1_EARLY_SNAPSHOT);
+    seen(early && !capture, W1_EARLY_CAPTURE_0);
+    seen(early && first_line == last_line && before->pixels <= first_column && !before->data, W1_EARLY_NOTHING);
+    seen(early && before->data && after->data == before->data && after->partial == before->partial, W1_EARLY_PARTIAL);
+    seen(early && before->held && after->held == before->held, W1_EARLY_HELD);
+    seen(early && last_line > 0x3FFF, W1_EARLY_WIDE);
+    seen(early && (before->blanked & VSYNC), W1_EARLY_IMAGE);
+    seen(before->frame == FRAME_UNTAKEN && crop && runs && hsync && stays_0, W1_UNTAKEN);
+    seen(taken && !crop && runs && hsync && stays_0, W1_CROP_0);
+    if (!taken || !crop) return;
+
+    seen(before->lines && !at_last && !later && !blanked && hsync && stays_0, W1_EARLIER_LINE);
+    seen(later && !blanked && hsync && stays_0, W1_LATER_LINE);
+    seen(just_ended && hsync && stays_0, W1_BLANKS_ON);
+    seen(just_ended && !blanks && stays_0, W1_NEXT_LINE);
+    if (!(blanks & VSYNC)) return;
+
+    seen(!at_last && !later && raised, W1_END_NOT_BEGUN);
+    seen(runs && blanks == VSYNC && raised, W1_END_RUNS);
+    seen(runs && blanks != VSYNC && raised, W1_END_BOTH);
+    seen(raised && (cleared & CAPTURE), W1_END_SNAPSHOT);
+    seen(just_ended && stays_0, W1_END_ENDED);
+    seen(later && stays_0, W1_END_LATER);
+    seen((just_ended || later) && (cleared & CAPTURE), W1_END_SNAPSHOT_ENDED);
+}
+
 /* Rules 3 to 5, and on to a pixel: a working edge with ENABLE 1. */
 static void reached_edge(const camera *before, const camera *after)
 {
     const uint32_t blanks = after->blanked, begins = blanks & ~before->blanked, ends = before->blanked & ~blanks, raised = after->ris & ~before->ris;
-    const bool closed = before->frame == FRAME_CLOSED, cm = before->cr & CM;
+    const bool closed = before->frame == FRAME_CLOSED, cm = before->cr & CM, crop = before->cr & CROP;
     seen(begins == VSYNC && (raised & F_VSYNC), R3_VSYNC);
     seen(begins == HSYNC && (raised & F_LINE), R3_LINE);
     seen((raised & F_VSYNC) && (raised & F_LINE), R3_BOTH);
     seen((raised & (F_VSYNC | F_LINE)) && !(before->cr & CAPTURE), R3_CAPTURE_0);
     seen(blanks == (HSYNC | VSYNC) && !begins, R3_STILL);
 
+    if (!closed) reached_window(before, after);
     if (blanks & VSYNC) {
         seen(closed, R4_NONE_OPEN);
-        seen(before->frame == FRAME_TAKEN && !cm && (raised & F_FRAME), R4_TAKEN);
-        seen(before->frame == FRAME_TAKEN && cm && (before->cr & ~after->cr & CAPTURE), R4_SNAPSHOT);
+        seen(before->frame == FRAME_TAKEN && !crop && !cm && (raised & F_FRAME), R4_TAKEN);
+        seen(before->frame == FRAME_TAKEN && !crop && (raised & F_FRAME) && (before->cr & ~after->cr & CAPTURE), R4_SNAPSHOT);
         seen(before->frame == FRAME_UNTAKEN && !(after->ris & F_FRAME), R4_UNTAKEN);
         seen(before->data, R4_PARTIAL);
         return;
