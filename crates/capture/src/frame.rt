@@ -74,7 +74,7 @@ fn window_ended(s: Capture, f: Scan) -> bool
     false
 }
 
-// Rule 4, W1: HSYNC blanks after that line.
+// Rule 4, W1: that line has begun, and HSYNC blanks.
 fn hsync_after_window(s: Capture, f: Scan, now: Syncs) -> bool
     ensures { λ r. ⌜ r ≡ capture-rules.hsync-after-window s f now ⌝ }
 {
@@ -100,7 +100,7 @@ fn frame_rises(s: Capture, f: Scan, now: Syncs) -> bool
     now.vsync
 }
 
-// Rule 4: FRAME.
+// Rule 4: FRAME, in a taken frame.
 fn frame_flag(frame: Frame, s: Capture, now: Syncs) -> Capture
     requires { ⌜ s .registers .ris ≤ 31 ⌝ }
     ensures { λ r. ⌜ r ≡ capture-rules.frame-flag frame s now ⌝ }

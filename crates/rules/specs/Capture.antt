@@ -61,16 +61,17 @@ unfoldable pub window-ended : Capture → Scan → Bool
 window-ended s f =
     ltb (lines-to-window-end (s .registers)) (f .lines) || (eqb (f .lines) (lines-to-window-end (s .registers)) && s .syncs .hsync)
 
--- Rule 4, W1: HSYNC blanks after that line.
+-- Rule 4, W1: that line has begun, and HSYNC blanks.
 unfoldable pub hsync-after-window : Capture → Scan → Syncs → Bool
 hsync-after-window s f now = leb (lines-to-window-end (s .registers)) (f .lines) && now .hsync
 
--- Rule 4 (004, 32.5.3 FRAME_RIS): when FRAME rises in a taken frame. With CROP 0 at frame end, where VSYNC blanks. With CROP 1 (W1) where HSYNC blanks after the window's
+-- Rule 4 (004, 32.5.3 FRAME_RIS, 32.3.8): when FRAME rises in a taken frame. With CROP 0 at frame end, where VSYNC blanks. With CROP 1 (W1) where HSYNC blanks after the window's
 -- last line, once in a frame; at frame end if that line never ended.
 unfoldable pub frame-rises : Capture → Scan → Syncs → Bool
 frame-rises s f now =
     cond (crop (s .registers .cr)) (not (window-ended s f) && (hsync-after-window s f now || now .vsync)) (now .vsync)
 
+-- Rule 4: FRAME, in a taken frame.
 unfoldable pub frame-flag : Frame → Capture → Syncs → Capture
 frame-flag Closed s now = s
 frame-flag (Open taken f) s now = cond (taken && frame-rises s f now) (raise 0 s) s
