@@ -1,7 +1,8 @@
 /* The cost of a sample: the library through the C header, and the plain C model of tests/c, on the same traces.
- * usage: bench lib|one|file|model|none|nofile WIDTH CROP OVERRUN ROWS [TIMES]
+ * usage: bench lib|one|file|model|none|nofile WIDTH CROP OVERRUN ROWS [TIMES [DEPTH WAITING]]
  * one gives the samples one at a time; none only makes the trace, nofile makes it and writes its file: what lib and model, and what file, do besides running.
- * WIDTH is 8, 10, 12 or 14; CROP and OVERRUN are 0 or 1; ROWS is the number of rows of 660 pixel clocks, two samples a clock. */
+ * WIDTH is 8, 10, 12 or 14; CROP and OVERRUN are 0 or 1; ROWS is the number of rows of 660 pixel clocks, two samples a clock. DEPTH is the FIFO's, four
+ * where none is named; WAITING is how many words wait in it, at most the depth and only with CROP 0; 0 stands for the reference trace. */
 #include <stdio.h>
 #include <stdlib.h>
 #include <string.h>
@@ -16,10 +17,11 @@ static uint32_t samples[2 * CLOCKS * MOST_ROWS];
 static uint8_t memory[4 * COLUMNS * MOST_ROWS], file[8 + 5 * 255 + 3 * LARGEST_FILE];
 
 /* The middle rows, all but ten, and the first 640 clocks of each are not blanked; both polarities are 1; two samples a clock with the same pins and
- * data; a grant at every fourth sample, or none. */
-static size_t make(unsigned rows, int overrun)
+ * data; a grant at every fourth sample, or none. With words waiting there are others: none until so many are held, then one with each sample
+ * that completes a word. */
+static size_t make(unsigned rows, int overrun, unsigned width, unsigned waiting)
 {
-    size_t n = 0;
+    size_t n = 0, pixels = 0, a_word = width == 8 ? 4 : 2;
     uint32_t random = 12345;
     for (unsigned row = 0; row < rows; row++)
         for (unsigned clock = 0; clock < CLOCKS; clock++) {
@@ -29,8 +31,11 @@ static size_t make(unsigned rows, int overrun)
                 pins |= 1u << 14;
             if (row < 5 || row + 5 >= rows)
                 pins |= 1u << 15;
+            if (!(pins >> 14))
+                pixels++;
+            int completes = !(pins >> 14) && pixels % a_word == 0 && pixels / a_word > waiting;
             for (uint32_t level = 0; level < 2; level++, n++)
-                samples[n] = pins | level << 16 | (!overrun && n % 4 == 3 ? 1u << 17 : 0);
+                samples[n] = pins | level << 16 | (!overrun && (waiting ? completes && level : n % 4 == 3) ? 1u << 17 : 0);
         }
     return n;
 }
@@ -44,14 +49,15 @@ static double seconds(void)
 
 int main(int count, char **words)
 {
-    if (count < 6)
-        return fprintf(stderr, "usage: bench lib|one|file|model|none|nofile WIDTH CROP OVERRUN ROWS [TIMES]\n"), 2;
+    if (count < 6 || count == 8)
+        return fprintf(stderr, "usage: bench lib|one|file|model|none|nofile WIDTH CROP OVERRUN ROWS [TIMES [DEPTH WAITING]]\n"), 2;
     unsigned width = (unsigned)atoi(words[2]), rows = (unsigned)atoi(words[5]), times = count > 6 ? (unsigned)atoi(words[6]) : 1;
+    unsigned depth = count > 8 ? (unsigned)atoi(words[7]) : 4, waiting = count > 8 ? (unsigned)atoi(words[8]) : 0;
     int crop = atoi(words[3]), overrun = atoi(words[4]);
-    if (rows > MOST_ROWS || width < 8 || width > 14)
+    if (rows > MOST_ROWS || width < 8 || width > 14 || waiting > depth || (waiting && crop))
         return 2;
     uint32_t cr = 0x40E1u | (width - 8) / 2 << 10 | (crop ? 4u : 0), start = 100u << 16 | 100, size = 199u << 16 | 299;
-    size_t n = make(rows, overrun);
+    size_t n = make(rows, overrun, width, waiting);
     int one = !strcmp(words[1], "one"), filed = !strcmp(words[1], "file") || !strcmp(words[1], "nofile");
     if (filed && n > LARGEST_FILE)
         n = LARGEST_FILE;
@@ -66,22 +72,24 @@ int main(int count, char **words)
     if (filed && dcmi_trace_write(&writes, samples, n, file, sizeof file, &length))
         return 1;
 
-    unsigned landed = 0;
+    unsigned landed = 0, held = 0;
     double best = 1e9;
     for (unsigned k = 0; k < times; k++) {
         double begin = seconds();
         if (!strcmp(words[1], "model")) {
             camera c;
-            model_reset(&c);
+            if (model_reset_depth(&c, depth))
+                return 1;
             for (size_t i = 0; i < writes.count; i++)
                 model_write(&c, writes.offset[i], writes.value[i]);
             if (model_run(&c, memory, sizeof memory, 0, samples, n))
                 return 1;
-            landed = c.landed;
+            landed = c.landed, held = c.held;
         } else if (one || !strcmp(words[1], "lib")) {
             dcmi_device d;
             dcmi_answer answer;
-            dcmi_reset(&d);
+            if (dcmi_reset_depth(&d, depth))
+                return 1;
             for (size_t i = 0; i < writes.count; i++)
                 dcmi_write(&d, writes.offset[i], writes.value[i]);
             if (!one && dcmi_run(&d, memory, sizeof memory, 0, samples, n))
@@ -89,17 +97,18 @@ int main(int count, char **words)
             for (size_t i = 0; one && i < n; i++)
                 if (dcmi_sample(&d, memory, sizeof memory, 0, samples[i], &answer))
                     return 1;
-            landed = d.word[DCMI_W_LANDED];
+            landed = d.word[DCMI_W_LANDED], held = d.word[DCMI_W_HELD];
         } else if (!strcmp(words[1], "file")) {
             dcmi_device d;
-            if (dcmi_run_file(&d, file, length, memory, sizeof memory, 0))
+            if (depth == 4 ? dcmi_run_file(&d, file, length, memory, sizeof memory, 0)
+                           : dcmi_run_file_depth(&d, depth, file, length, memory, sizeof memory, 0))
                 return 1;
-            landed = d.word[DCMI_W_LANDED];
+            landed = d.word[DCMI_W_LANDED], held = d.word[DCMI_W_HELD];
         }
         double took = seconds() - begin;
         if (took < best)
             best = took;
     }
-    printf("%zu samples, %u landed, %.2f ns a sample\n", n, landed, 1e9 * best / (double)n);
+    printf("%zu samples, %u landed, %u held, %.2f ns a sample\n", n, landed, held, 1e9 * best / (double)n);
     return 0;
 }

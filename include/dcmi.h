@@ -6,7 +6,7 @@
  * A pointer must be valid for the length beside it, or for the one object that it points to. Buffers that are passed to one call must not overlap.
  * A null pointer is allowed where the length beside it is 0, and nowhere else. No call keeps a pointer, allocates, locks or writes elsewhere.
  *
- * Link with libdcmi.a (x86-64). Usable from C11 and C++17. */
+ * Link with libdcmi.a (x86-64). It needs `memcpy` and `memmove` of the C library. Usable from C11 and C++17. */
 #ifndef DCMI_H
 #define DCMI_H
 
@@ -34,7 +34,8 @@ enum {
     DCMI_COUNT = 12,       /* sample count above 16,384 */
     DCMI_LENGTH = 13,      /* fewer than 8 bytes, or length not as the header says */
     DCMI_WRITES = 14,      /* more than 255 writes given to the writer */
-    DCMI_ROOM = 15         /* the writer's output does not fit */
+    DCMI_ROOM = 15,        /* the writer's output does not fit */
+    DCMI_DEPTH = 18        /* depth 0 or above 32 where a device is made */
 };
 
 /* Register offsets. */
@@ -42,11 +43,11 @@ enum {
     DCMI_CR = 0x00, DCMI_SR = 0x04, DCMI_RIS = 0x08, DCMI_IER = 0x0C, DCMI_MIS = 0x10, DCMI_ICR = 0x14, DCMI_CWSTRT = 0x20, DCMI_CWSIZE = 0x24
 };
 
-/* A device: an image of 32-bit words that the caller owns, copies and stores as it likes. `dcmi_reset` makes a fresh one. A word that is 0 or 1
- * says no or yes; an image with another value there, a frame above 2, or lines or pixels in a closed frame encodes no device: every call
+/* A device: an image of 32-bit words that the caller owns, copies and stores as it likes. `dcmi_reset` and `dcmi_reset_depth` make a fresh one.
+ * A word that is 0 or 1 says no or yes; an image with another value there, a frame above 2, or lines or pixels in a closed frame encodes no device: every call
  * that reads a device refuses it with DCMI_MALFORMED, as it does a device that breaks one of the rules for well-formed devices. */
 enum {
-    DCMI_WORDS = 26,
+    DCMI_WORDS = 55,
     DCMI_W_CR = 0,             /* registers */
     DCMI_W_RIS = 1,
     DCMI_W_IER = 2,
@@ -63,13 +64,14 @@ enum {
     DCMI_W_RATE = 13,          /* the rate counter */
     DCMI_W_PARTIAL_COUNT = 14, /* the partial word: how many data, and their bits */
     DCMI_W_PARTIAL_BITS = 15,
-    DCMI_W_SLOT = 16,          /* four FIFO slots, 16 to 19: the held words, oldest first, then zeros */
-    DCMI_W_HELD = 20,          /* how many words are held */
-    DCMI_W_PLACE = 21,         /* the number of the next word to land */
-    DCMI_W_SAMPLES = 22,       /* counts since reset */
-    DCMI_W_COMPLETED = 23,
-    DCMI_W_LANDED = 24,
-    DCMI_W_DISCARDED = 25
+    DCMI_W_SLOT = 16,          /* 32 FIFO slots, 16 to 47, at every depth: the held words, oldest first, then zeros */
+    DCMI_W_HELD = 48,          /* how many words are held, at most the depth */
+    DCMI_W_PLACE = 49,         /* the number of the next word to land */
+    DCMI_W_SAMPLES = 50,       /* counts since reset */
+    DCMI_W_COMPLETED = 51,
+    DCMI_W_LANDED = 52,
+    DCMI_W_DISCARDED = 53,
+    DCMI_W_DEPTH = 54          /* the depth of the FIFO, 1 to 32, fixed when the device is made */
 };
 
 typedef struct dcmi_device {
@@ -103,8 +105,11 @@ typedef struct dcmi_writes {
     uint32_t value[255];
 } dcmi_writes;
 
-/* A fresh device. Never refused, whatever the image held. */
+/* A fresh device with a FIFO of four words. Never refused, whatever the image held. */
 uint32_t dcmi_reset(dcmi_device *device);
+
+/* A fresh device with a FIFO of `depth` words, whatever the image held. Refusal 18. */
+uint32_t dcmi_reset_depth(dcmi_device *device, uint32_t depth);
 
 /* A register write. Refusals 1, 2, 3, 4, 5, 6 in order. */
 uint32_t dcmi_write(dcmi_device *device, uint32_t offset, uint32_t value);
@@ -122,6 +127,8 @@ uint32_t dcmi_rearm(dcmi_device *device);
 uint32_t dcmi_sample_slices(dcmi_device *device, uint8_t *memory, size_t length, size_t start, uint32_t sample, dcmi_answer *answer);
 uint32_t dcmi_run_slices(dcmi_device *device, uint8_t *memory, size_t length, size_t start, const uint32_t *samples, size_t count);
 uint32_t dcmi_run_file_slices(dcmi_device *device, const uint8_t *file, size_t file_length, uint8_t *memory, size_t length, size_t start);
+uint32_t dcmi_run_file_depth_slices(dcmi_device *device, uint32_t depth, const uint8_t *file, size_t file_length, uint8_t *memory, size_t length,
+                                    size_t start);
 uint32_t dcmi_trace_write_slices(size_t count, const uint8_t *offsets, const uint32_t *values, const uint32_t *samples, size_t samples_count,
                                  uint8_t *out, size_t length, size_t *written);
 uint32_t dcmi_trace_item_slices(const uint8_t *file, size_t length, size_t place, dcmi_item *item);
@@ -141,13 +148,22 @@ static inline uint32_t dcmi_run(dcmi_device *device, uint8_t *memory, size_t len
     return dcmi_run_slices(device, length ? memory : &none, length, start, count ? samples : &nothing, count);
 }
 
-/* A trace file on a fresh device: its writes, then its samples as one run. *device is written only, and becomes the device after the file.
- * Refusals 13, 10, 11, 12, 13, the first refused write's number, 9, 7, 8 in order. */
+/* A trace file on a fresh device with a FIFO of four words: its writes, then its samples as one run. *device is written only, and becomes the device
+ * after the file. Refusals 13, 10, 11, 12, 13, the first refused write's number, 9, 7, 8 in order. */
 static inline uint32_t dcmi_run_file(dcmi_device *device, const uint8_t *file, size_t file_length, uint8_t *memory, size_t length, size_t start)
 {
     uint8_t none = 0;
     uint8_t nothing = 0;
     return dcmi_run_file_slices(device, file_length ? file : &nothing, file_length, length ? memory : &none, length, start);
+}
+
+/* The same on a fresh device with a FIFO of `depth` words. Refusals 18, then as dcmi_run_file. */
+static inline uint32_t dcmi_run_file_depth(dcmi_device *device, uint32_t depth, const uint8_t *file, size_t file_length, uint8_t *memory, size_t length,
+                                           size_t start)
+{
+    uint8_t none = 0;
+    uint8_t nothing = 0;
+    return dcmi_run_file_depth_slices(device, depth, file_length ? file : &nothing, file_length, length ? memory : &none, length, start);
 }
 
 /* A trace file of some writes and samples into the lent buffer; its length into *written. Bytes of the buffer after it stay.

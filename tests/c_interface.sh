@@ -10,8 +10,8 @@ STRICT="-Wall -Wextra -pedantic -Werror -Iinclude"
 PARTS="tests/c/compare.c tests/c/checked.c tests/c/reached.c tests/c/inputs.c tests/c/guard.c tests/c/model.c"
 
 # Seeds of the short run under valgrind, and how many calls of each.
-SHORT_SEEDS="0 1 2 4 6 7"
-SHORT_CALLS=3000
+SHORT_SEEDS="0 1 2 4 6 7 8"
+SHORT_CALLS=12000
 
 fail() {
     echo "FAILED: $*"

@@ -14,10 +14,20 @@
 #include "model.h"
 #include "reached.h"
 
-static const char *const word_name[DCMI_WORDS] = {
-    "CR", "RIS", "IER", "CWSTRT", "CWSIZE", "HSYNC", "VSYNC", "CLOCK", "HSYNC_BLANKED", "VSYNC_BLANKED", "FRAME", "LINES", "PIXELS", "RATE",
-    "PARTIAL_COUNT", "PARTIAL_BITS", "SLOT 0", "SLOT 1", "SLOT 2", "SLOT 3", "HELD", "PLACE", "SAMPLES", "COMPLETED", "LANDED", "DISCARDED",
-};
+/* The name of a word of the image, until the next is asked for. */
+static const char *word_name(unsigned word)
+{
+    static const char *const before[DCMI_W_SLOT] = {
+        "CR", "RIS", "IER", "CWSTRT", "CWSIZE", "HSYNC", "VSYNC", "CLOCK", "HSYNC_BLANKED", "VSYNC_BLANKED", "FRAME", "LINES", "PIXELS", "RATE",
+        "PARTIAL_COUNT", "PARTIAL_BITS",
+    };
+    static const char *const after[DCMI_WORDS - DCMI_W_HELD] = { "HELD", "PLACE", "SAMPLES", "COMPLETED", "LANDED", "DISCARDED", "DEPTH" };
+    static char slot[24];
+    if (word < DCMI_W_SLOT) return before[word];
+    if (word >= DCMI_W_HELD) return after[word - DCMI_W_HELD];
+    snprintf(slot, sizeof slot, "SLOT %u", word - DCMI_W_SLOT);
+    return slot;
+}
 
 static call now; /* the call that is being made */
 static const char *program;
@@ -57,10 +67,12 @@ static void print_call(void)
 {
     printf("seed %" PRIu64 ", call %" PRIu64 ": %s", seed, now.number, call_name[now.kind]);
     switch (now.kind) {
+    case RESET_DEPTH: printf(", depth %" PRIu32, now.depth); break;
     case WRITE: printf(", offset 0x%" PRIX32 ", value 0x%" PRIX32, now.offset, now.value); break;
     case READ: printf(", offset 0x%" PRIX32, now.offset); break;
     case SAMPLE: printf(", memory of %zu bytes, start %zu, sample 0x%05" PRIX32, length_of_memory, now.start, now.value); break;
     case RUN: printf(", memory of %zu bytes, start %zu, %zu samples", length_of_memory, now.start, now.count); break;
+    case RUN_FILE_DEPTH: printf(", depth %" PRIu32, now.depth); /* fall through */
     case RUN_FILE: printf(", file of %zu bytes, memory of %zu bytes, start %zu", now.length, length_of_memory, now.start); break;
     case TRACE_WRITE: printf(", %zu writes, %zu samples, buffer of %zu bytes", now.writes->count, now.count, now.length); break;
     case TRACE_ITEM: printf(", file of %zu bytes, place %zu", now.length, now.place); break;
@@ -80,10 +92,10 @@ static void print_inputs(void)
         printf("  file");
         print_bytes(now.file, now.length);
     }
-    if (now.kind > RUN_FILE) return;
+    if (now.kind > RUN_FILE_DEPTH) return;
     printf("  device before, words that are not 0:\n");
     for (unsigned i = 0; i < DCMI_WORDS; i++)
-        if (now.before[i]) printf("    %-14s 0x%08" PRIX32 "\n", word_name[i], now.before[i]);
+        if (now.before[i]) printf("    %-14s 0x%08" PRIX32 "\n", word_name(i), now.before[i]);
 }
 
 /* The last call that this makes is the one at hand. */
@@ -236,7 +248,7 @@ static void compare_device(void)
     difference();
     for (unsigned i = 0; i < DCMI_WORDS; i++) {
         if (want_device[i] == got[i]) continue;
-        printf("  device word %u, %s: the model has 0x%08" PRIX32 ", the library 0x%08" PRIX32 "\n", i, word_name[i], want_device[i], got[i]);
+        printf("  device word %u, %s: the model has 0x%08" PRIX32 ", the library 0x%08" PRIX32 "\n", i, word_name(i), want_device[i], got[i]);
     }
 }
 
@@ -356,10 +368,21 @@ static void compare_fields(const char *const *name, const uint64_t *want, unsign
 uint32_t check_reset(void)
 {
     begin(RESET);
+    now.depth = USUAL_DEPTH;
     camera c;
     model_reset(&c);
     model_to_image(&c, want_device);
     return finish(0, dcmi_reset(g_device.at));
+}
+
+uint32_t check_reset_depth(uint32_t depth)
+{
+    begin(RESET_DEPTH);
+    now.depth = depth;
+    camera c;
+    const uint32_t want = model_reset_depth(&c, depth);
+    if (!want) model_to_image(&c, want_device);
+    return finish(want, dcmi_reset_depth(g_device.at, depth));
 }
 
 uint32_t check_write(uint32_t offset, uint32_t value)
@@ -469,23 +492,48 @@ uint32_t check_run(size_t start, const uint32_t *samples, size_t count)
     return finish(want, got);
 }
 
-uint32_t check_run_file(const uint8_t *file, size_t file_length, size_t start)
+static uint32_t call_run_file(uint8_t *file, size_t file_length, size_t start)
 {
-    begin(RUN_FILE);
+    uint8_t *memory = lent_memory;
+    const size_t length = length_of_memory;
+    if (direct()) return dcmi_run_file_slices(g_device.at, file, file_length, memory, length, start);
+    return dcmi_run_file(g_device.at, or_null(file, file_length), file_length, or_null(memory, length), length, start);
+}
+
+static uint32_t call_run_file_depth(uint8_t *file, size_t file_length, size_t start)
+{
+    uint8_t *memory = lent_memory;
+    const size_t length = length_of_memory;
+    if (direct()) return dcmi_run_file_depth_slices(g_device.at, now.depth, file, file_length, memory, length, start);
+    return dcmi_run_file_depth(g_device.at, now.depth, or_null(file, file_length), file_length, or_null(memory, length), length, start);
+}
+
+static uint32_t check_file(call_kind kind, uint32_t depth, const uint8_t *file, size_t file_length, size_t start)
+{
+    begin(kind);
+    now.depth = depth;
     now.file = file;
     now.length = file_length;
     now.start = start;
     camera c;
     const bool own = file_length <= MOST_FILE;
-    const uint32_t want = model_run_file(&c, file, file_length, want_memory, length_of_memory, start);
+    const uint32_t want = kind == RUN_FILE ? model_run_file(&c, file, file_length, want_memory, length_of_memory, start)
+                                           : model_run_file_depth(&c, depth, file, file_length, want_memory, length_of_memory, start);
     if (!want) model_to_image(&c, want_device);
     uint8_t *lent = own ? lend(&g_file, file, file_length) : (uint8_t *)file;
-    uint8_t *memory = lent_memory;
-    const size_t length = length_of_memory;
-    const uint32_t got = direct() ? dcmi_run_file_slices(g_device.at, lent, file_length, memory, length, start)
-                                  : dcmi_run_file(g_device.at, or_null(lent, file_length), file_length, or_null(memory, length), length, start);
+    const uint32_t got = kind == RUN_FILE ? call_run_file(lent, file_length, start) : call_run_file_depth(lent, file_length, start);
     if (own) take_back("file", &g_file, file, file_length);
     return finish(want, got);
+}
+
+uint32_t check_run_file(const uint8_t *file, size_t file_length, size_t start)
+{
+    return check_file(RUN_FILE, USUAL_DEPTH, file, file_length, start);
+}
+
+uint32_t check_run_file_depth(uint32_t depth, const uint8_t *file, size_t file_length, size_t start)
+{
+    return check_file(RUN_FILE_DEPTH, depth, file, file_length, start);
 }
 
 static uint8_t want_out[MOST_MEMORY];

@@ -42,6 +42,7 @@ uint8_t *far_memory(void);
 
 /* The calls. Each returns the answer, on which both sides agree. */
 uint32_t check_reset(void);
+uint32_t check_reset_depth(uint32_t depth);
 uint32_t check_write(uint32_t offset, uint32_t value);
 uint32_t check_read(uint32_t offset, uint32_t *value);
 uint32_t check_interrupt(void);
@@ -49,6 +50,7 @@ uint32_t check_rearm(void);
 uint32_t check_sample(size_t start, uint32_t sample, dcmi_answer *answer);
 uint32_t check_run(size_t start, const uint32_t *samples, size_t count);
 uint32_t check_run_file(const uint8_t *file, size_t file_length, size_t start);
+uint32_t check_run_file_depth(uint32_t depth, const uint8_t *file, size_t file_length, size_t start);
 uint32_t check_trace_write(const dcmi_writes *writes, const uint32_t *samples, size_t count, size_t length);
 uint32_t check_trace_item(const uint8_t *file, size_t length, size_t place, dcmi_item *item);
 

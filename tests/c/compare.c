@@ -67,10 +67,9 @@ static uint32_t word_of_t(uint32_t cr)
     return word;
 }
 
-/* A blank edge, then pixels without grants; the last one's working sample is granted or not. */
+/* A blank edge, then pixels without grants on a fresh device; the last one's working sample is granted or not. */
 static void pixels(unsigned count, bool grant)
 {
-    check_reset();
     lend_memory(16);
     check_write(DCMI_CR, 0x48E3);
     check_sample(0, 0x0C000, NULL);
@@ -220,6 +219,109 @@ static void paper_window_unended(void)
     expect_flags("W1, frame end after the overrun", HBLANK | VBLANK, 0x1A);
 }
 
+/* W9. A device that holds as many words as its depth, handed in with another depth: one less is malformed, one more is not, up to 32. */
+static void paper_held(uint32_t depth)
+{
+    uint32_t image[DCMI_WORDS], other[DCMI_WORDS];
+    memcpy(image, device(), sizeof image);
+    memcpy(other, device(), sizeof other);
+    other[DCMI_W_DEPTH] = depth - 1;
+    set_device(other);
+    expect("W9, more held than the depth", 1, check_interrupt());
+    other[DCMI_W_DEPTH] = depth + 1;
+    set_device(other);
+    expect("W9, fewer held than the depth", depth < 32 ? 0 : 1, check_interrupt());
+    set_device(image);
+}
+
+/* W9. The paper's nine and ten pixels at a depth: two fill a word, the next overruns, a grant with it makes room; all in the order they came. */
+static void paper_depth(uint32_t depth)
+{
+    expect("W9, a depth", 0, check_reset_depth(depth));
+    pixels(2 * depth + 1, false);
+    expect_device("W9, as many as the depth", 0, depth, 0, 0x18);
+    expect("W9, disabling", 0, check_write(DCMI_CR, 0x08E2));
+    expect_device("W9, disabling discards them", 0, 0, depth, 0x18);
+    expect("W9, disabling leaves the depth", depth, device()[DCMI_W_DEPTH]);
+
+    check_reset_depth(depth);
+    pixels(2 * depth + 2, false);
+    expect_device("W9, one more", 0, 0, depth + 1, 0x1A);
+    expect_register("W9, CAPTURE cleared", DCMI_CR, 0x48E2);
+
+    check_reset_depth(depth);
+    pixels(2 * depth + 2, true);
+    expect_device("W9, one more, granted", 1, depth, 0, 0x18);
+    expect("W9, the depth stays", depth, device()[DCMI_W_DEPTH]);
+    paper_held(depth);
+    check_rearm();
+    lend_memory(4 * depth);
+    for (uint32_t i = 0; i < depth; i++) {
+        dcmi_answer answer = { 0, 0, 0, 0 };
+        check_sample(0, 0x20000, &answer);
+        expect("W9, the byte", 4 * i, answer.byte);
+        expect_word("W9, the order", 4 * i, (2 * i + 4) << 16 | (2 * i + 3));
+    }
+    expect_device("W9, all landed", depth + 1, 0, 0, 0x18);
+}
+
+/* W9. A file of no bytes is refused 18 before 13, one that is accepted too; the device stays. In a device that is handed in a bad depth is 1. */
+static void paper_bad_depth(uint32_t depth)
+{
+    static const uint8_t empty[8] = { 'F', 'G', 'T', 1, 0, 0, 0, 0 };
+    uint32_t image[DCMI_WORDS];
+    check_reset_depth(7);
+    memcpy(image, device(), sizeof image);
+    pixels(5, false);
+    expect("W9, a bad depth", 18, check_reset_depth(depth));
+    expect("W9, a file of no bytes", 18, check_run_file_depth(depth, NULL, 0, 17));
+    expect("W9, an accepted file", 18, check_run_file_depth(depth, empty, 8, 0));
+    expect("W9, the same at a depth", 13, check_run_file_depth(32, empty, 7, 0));
+    expect_device("W9, the device stays", 0, 2, 0, 0x18);
+    image[DCMI_W_DEPTH] = depth;
+    set_device(image);
+    expect("W9, handed in, written", 1, check_write(DCMI_IER, 0));
+    expect("W9, handed in, read", 1, check_read(DCMI_SR, NULL));
+    expect("W9, handed in, the line", 1, check_interrupt());
+    expect("W9, handed in, re-armed", 1, check_rearm());
+    expect("W9, handed in, one sample", 1, check_sample(17, 0x40000, NULL));
+    expect("W9, handed in, a run", 1, check_run(0, NULL, 0));
+    expect("W9, handed in, a file", 0, check_run_file_depth(32, empty, 8, 0));
+    expect("W9, the file's depth", 32, device()[DCMI_W_DEPTH]);
+    expect("W9, a file where none is named", 0, check_run_file(empty, 8, 0));
+    expect("W9, four", 4, device()[DCMI_W_DEPTH]);
+    set_device(image);
+    expect("W9, handed in, a depth", 0, check_reset_depth(1));
+    set_device(image);
+    expect("W9, reset where none is named", 0, check_reset());
+    expect("W9, four", 4, device()[DCMI_W_DEPTH]);
+}
+
+/* W9. Unused slots are all from the held words on to the last, also beyond the depth. */
+static void paper_slots(void)
+{
+    uint32_t image[DCMI_WORDS];
+    for (uint32_t depth = 1; depth <= 32; depth++) {
+        for (uint32_t slot = 0; slot < 32; slot++) {
+            memset(image, 0, sizeof image);
+            image[DCMI_W_DEPTH] = depth;
+            set_device(image);
+            expect("W9, a fresh device", 0, check_rearm());
+            image[DCMI_W_SLOT + slot] = 1;
+            set_device(image);
+            expect("W9, a slot with no word held", 1, check_rearm());
+        }
+    }
+}
+
+static void paper_depths(void)
+{
+    static const uint32_t bad[] = { 0, 33, 34, 256, 257, 288, 0x10004, 0x80000020, UINT32_MAX };
+    for (uint32_t depth = 1; depth <= 32; depth++) paper_depth(depth);
+    for (unsigned i = 0; i < sizeof bad / sizeof *bad; i++) paper_bad_depth(bad[i]);
+    paper_slots();
+}
+
 static void paper_refusals(void)
 {
     check_reset();
@@ -270,10 +372,13 @@ static void paper_examples(void)
     expect("T at 10 bits", 0x011B02AB, word_of_t(0x44E3));
     expect("T at 8 bits", 0, word_of_t(0x40E3));
     expect_device("T at 8 bits", 0, 0, 0, 0x19);
+    check_reset();
     pixels(9, false);
     expect_device("nine pixels", 0, 4, 0, 0x18);
+    check_reset();
     pixels(10, false);
     expect_device("ten pixels", 0, 0, 5, 0x1A);
+    check_reset();
     pixels(10, true);
     expect_device("ten pixels, granted", 1, 4, 0, 0x18);
     paper_crop();
@@ -281,12 +386,28 @@ static void paper_examples(void)
     paper_window_snapshot();
     paper_window_none();
     paper_window_unended();
+    paper_depths();
     paper_refusals();
     paper_memory();
     paper_file();
 }
 
 /* ---- pieces ---- */
+
+/* A fresh device, often of a named depth; at times a depth is refused before. */
+static void fresh(void)
+{
+    if (chance(1, 8)) check_reset_depth(bad_depth());
+    if (chance(1, 6)) check_reset();
+    else check_reset_depth(any_depth());
+}
+
+/* A file, often at a named depth, which may be refused. */
+static uint32_t run_file(const uint8_t *bytes, size_t length, size_t start)
+{
+    if (chance(1, 3)) return check_run_file(bytes, length, start);
+    return check_run_file_depth(chance(1, 5) ? bad_depth() : any_depth(), bytes, length, start);
+}
 
 /* Bytes of memory: few, or enough for some frames. */
 static size_t any_length(void) { return chance(2, 3) ? below(41) : between(41, 256); }
@@ -391,12 +512,36 @@ static void damaged_run(scene *s, size_t start)
     check_sample(start, t.samples[at], NULL);
 }
 
+/* Whether the next sample completes a word, if it carries a pixel. */
+static bool completes(const scene *s)
+{
+    const uint32_t datum = cr_of_device() & 0xC00 ? 1 : 3;
+    return s->part >= s->hold && device()[DCMI_W_FRAME] == 2 && device()[DCMI_W_PARTIAL_COUNT] == datum;
+}
+
+/* Samples that find the FIFO full or nearly so: no grants before, then some, often only where a word is completed. */
+static void fill(scene *s, size_t start, unsigned actions)
+{
+    static const uint32_t grants[] = { 0, 0, 0, 32, 128 };
+    const uint32_t grant = s->grant;
+    while (actions-- && more()) {
+        const uint32_t held = device()[DCMI_W_HELD], depth = device()[DCMI_W_DEPTH];
+        s->grant = held + 1 < depth ? 0 : completes(s) && chance(1, 2) ? 256 : grants[below(5)];
+        if (held + 1 < depth) runs(s, start, between(1, 6 * (depth - held)));
+        else if (chance(1, 8)) runs(s, start, below(16));
+        else singles(s, start, 1);
+    }
+    s->grant = grant;
+}
+
 static void camera_action(scene *s, size_t *start)
 {
     const bool idle = !(cr_of_device() & 1), full = 4 * (size_t)device()[DCMI_W_PLACE] + 4 > memory_length();
     if (idle && chance(1, 2)) check_write(DCMI_CR, cr_of_device() | 1);
     if (full && chance(1, 4)) check_rearm();
-    switch (below(40)) {
+    switch (below(42)) {
+    case 40: fill(s, *start, between(4, 40)); break;
+    case 41: if (chance(1, 4)) check_reset_depth(bad_depth()); break;
     case 0: case 1: check_write(DCMI_CR, cr_of_device() ^ 1); break;
     case 2: disable(s, *start); break;
     case 3: check_write(DCMI_ICR, below(32)); break;
@@ -420,7 +565,7 @@ static void camera_action(scene *s, size_t *start)
 static void camera_history(unsigned actions)
 {
     scene s;
-    check_reset();
+    fresh();
     lend_memory(frame_length());
     size_t start = good_start();
     set_up(&s, start);
@@ -487,7 +632,7 @@ static void driver_kind(void)
 {
     while (more()) {
         scene s;
-        if (chance(1, 2)) check_reset();
+        if (chance(1, 2)) fresh();
         lend_memory(between(256, 4096));
         const size_t start = good_start();
         driver_set_up(&s);
@@ -522,7 +667,7 @@ static void random_action(void)
 static void random_kind(void)
 {
     while (more()) {
-        check_reset();
+        fresh();
         lend_memory(any_length());
         for (unsigned n = between(20, 200); n && more(); n--) random_action();
     }
@@ -624,7 +769,7 @@ static void images_kind(void)
         if (chance(1, 20)) {
             random_bytes((uint8_t *)changed, sizeof changed);
             every_call(changed);
-            check_reset();
+            fresh();
         }
     }
 }
@@ -661,7 +806,7 @@ static void last_samples(void)
 static void image_at_place(uint32_t *image, uint32_t place)
 {
     do image_well_formed(image);
-    while (image[DCMI_W_HELD] < 2);
+    while (image[DCMI_W_HELD] < 1);
     image[DCMI_W_PLACE] = place;
     image[DCMI_W_LANDED] = place;
     image[DCMI_W_DISCARDED] = 0;
@@ -671,7 +816,7 @@ static void image_at_place(uint32_t *image, uint32_t place)
 
 static bool far_landing(void)
 {
-    static const uint32_t places[] = { 0, 1, 0x3FFFFFFE, 0x3FFFFFFF, 0x40000000, 0x40000001, 0x7FFFFFFF, 0x80000000, 0xC0000000, 0xFFFFFFF8 };
+    static const uint32_t places[] = { 0, 1, 0x3FFFFFFE, 0x3FFFFFFF, 0x40000000, 0x40000001, 0x7FFFFFFF, 0x80000000, 0xC0000000, 0xFFFFFFC0 };
     static const uint64_t starts[] = { 0, 1, 7, 0xFFFFFFFF, 0x100000000, 0x100000005 };
     const uint32_t place = places[below(10)];
     const uint64_t start = place < 0xC0000000 ? starts[below(6)] : below(16), end = start + 4 * (uint64_t)place;
@@ -698,7 +843,7 @@ static void far_file(void)
     check_trace_write(&t.writes, (const uint32_t *)(const void *)far_memory(), above + t.count, MOST_MEMORY);
     memcpy(far_memory(), file, length);
     lend_memory(any_length());
-    check_run_file(far_memory(), above + length, 0);
+    run_file(far_memory(), above + length, 0);
     check_trace_item(far_memory(), above + length, below(8), NULL);
 }
 
@@ -726,7 +871,7 @@ static size_t any_place(size_t items)
 /* A file on which both readers are asked. */
 static void ask(const uint8_t *bytes, size_t length)
 {
-    check_run_file(bytes, length, any_start());
+    run_file(bytes, length, any_start());
     check_trace_item(bytes, length, chance(1, 2) ? 0 : any_place(t.writes.count + t.count), NULL);
 }
 
@@ -807,9 +952,12 @@ static void refused_content(void)
         t.samples[at] |= UINT32_C(1) << between(18, 23);
     }
     const size_t length = trace_file(&t, file);
-    check_run_file(file, length, any_start());
+    run_file(file, length, any_start());
     every_item(length);
     rewrite(file, length);
+    const uint32_t at = below(5); /* the mark or the version */
+    file[at] ^= (uint8_t)(1 << below(8));
+    run_file(file, length, any_start());
 }
 
 /* As many writes as fit, all accepted: they end as they began. */
@@ -832,7 +980,7 @@ static void large_files(void)
         if (i >= 2) fill_writes(255);
         const size_t length = trace_file(&t, file);
         lend_memory(chance(1, 2) ? 16384 : chance(1, 2) ? any_length() : between(257, 70000));
-        check_run_file(file, length, any_start());
+        run_file(file, length, any_start());
         ask(file, length + 1);
         ask(file, length - 1);
         if (i == 2) rewrite(file, length);
@@ -847,6 +995,22 @@ static void large_files(void)
         file[4] = (uint8_t)random_u32();
         ask(file, length);
         check_trace_item(file, length, t.writes.count + t.count - 1, NULL);
+        file[4] = 0;
+        if (t.writes.count) file[8] |= 0x40; /* the first write's offset */
+        ask(file, length);
+    }
+}
+
+/* Files that overrun at every depth, each at some. */
+static void full_files(void)
+{
+    for (unsigned n = 4; n; n--) {
+        trace_full(&t, between(100, 900));
+        const size_t length = trace_file(&t, file);
+        for (unsigned depths = 8; depths; depths--) {
+            const size_t start = good_start();
+            check_run_file_depth(any_depth(), file, length, start);
+        }
     }
 }
 
@@ -861,16 +1025,17 @@ static void files_kind(void)
         trace_valid(&t, chance(1, 4) ? 0 : below(12));
         if (chance(1, 4)) t.writes.count = 0;
         const size_t length = trace_file(&t, file);
-        check_run_file(file, length, any_start());
+        run_file(file, length, any_start());
         every_item(length);
         rewrite(file, length);
         if (chance(1, 6)) damaged_header(length);
         if (chance(1, 4)) wrong_length(length);
         for (unsigned n = 20; n; n--) {
             trace_valid(&t, below(chance(1, 8) ? 400 : 30));
-            check_run_file(file, trace_file(&t, file), any_start());
+            run_file(file, trace_file(&t, file), any_start());
             refused_content();
         }
+        full_files();
     }
 }
 
@@ -907,7 +1072,7 @@ static void read_back(void)
     const uint8_t *bytes = written_file(&length);
     memcpy(file, bytes, length);
     if (t.count < 100) every_item(length);
-    check_run_file(file, length, any_start());
+    run_file(file, length, any_start());
     if (t.count < 100 || chance(1, 8)) rewrite(file, length);
 }
 
@@ -932,6 +1097,46 @@ static void writer_kind(void)
     }
 }
 
+/* ---- full: FIFOs of every depth that are full or nearly so ---- */
+
+static void full_action(scene *s, size_t start)
+{
+    const uint32_t cr = cr_of_device();
+    if (!(cr & 1)) check_write(DCMI_CR, cr | 1);
+    if (4 * (size_t)device()[DCMI_W_PLACE] + 4 > memory_length() && chance(1, 2)) check_rearm();
+    switch (below(16)) {
+    case 0: /* disabled, often with a full FIFO */
+        check_write(DCMI_CR, cr & ~UINT32_C(0x4001));
+        check_write(DCMI_CR, cr | 0x4001);
+        break;
+    case 1: /* emptied */
+        s->grant = 256;
+        runs(s, start, between(1, 40));
+        s->grant = 0;
+        break;
+    case 2: runs(s, start, between(100, 700)); break;
+    case 3: check_read(DCMI_SR, NULL); break;
+    case 4: check_interrupt(); break;
+    case 5: check_write(DCMI_ICR, below(32)); break;
+    case 6: check_rearm(); break;
+    default: fill(s, start, between(4, 30)); break;
+    }
+}
+
+static void full_kind(void)
+{
+    while (more()) {
+        scene s;
+        const uint32_t cr = (valid_cr() | 1) & ~UINT32_C(0x4);
+        fresh();
+        lend_memory(chance(1, 8) ? any_length() : between(256, 4096));
+        const size_t start = good_start();
+        scene_full(&s, cr);
+        check_write(DCMI_CR, cr);
+        for (unsigned n = between(4, 60); n && more(); n--) full_action(&s, start);
+    }
+}
+
 /* ---- seeds ---- */
 
 static const struct {
@@ -939,7 +1144,7 @@ static const struct {
     uint64_t calls; /* enough for a seed */
 } kinds[] = {
     { camera_kind, 100000 }, { driver_kind, 20000 }, { random_kind, 50000 }, { images_kind, 50000 },
-    { limits_kind, 20000 }, { files_kind, 20000 }, { writer_kind, 20000 },
+    { limits_kind, 20000 }, { files_kind, 20000 }, { writer_kind, 20000 }, { full_kind, 40000 },
 };
 
 enum { KINDS = sizeof kinds / sizeof *kinds, ROUNDS = 48, SEEDS = 1 + ROUNDS * KINDS };

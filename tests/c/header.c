@@ -8,12 +8,14 @@ static_assert(DCMI_OK == 0 && DCMI_MALFORMED == 1 && DCMI_NO_REGISTER == 2 && DC
 static_assert(DCMI_UNSUPPORTED == 5 && DCMI_ENABLED == 6 && DCMI_SAMPLE_BITS == 7 && DCMI_SAMPLES == 8 && DCMI_START == 9, "refusals 5 to 9");
 static_assert(DCMI_MARK == 10 && DCMI_VERSION == 11 && DCMI_COUNT == 12 && DCMI_LENGTH == 13, "refusals of files");
 static_assert(DCMI_WRITES == 14 && DCMI_ROOM == 15, "refusals of the writer");
+static_assert(DCMI_DEPTH == 18, "refusal of a depth");
 static_assert(DCMI_CR == 0x00 && DCMI_SR == 0x04 && DCMI_RIS == 0x08 && DCMI_IER == 0x0C && DCMI_MIS == 0x10, "offsets");
 static_assert(DCMI_ICR == 0x14 && DCMI_CWSTRT == 0x20 && DCMI_CWSIZE == 0x24, "offsets");
 
 /* The layout that the library was built with. */
-static_assert(sizeof(dcmi_device) == 104 && sizeof(dcmi_answer) == 32 && sizeof(dcmi_item) == 32, "sizes");
-static_assert(DCMI_WORDS == 26 && DCMI_W_DISCARDED == DCMI_WORDS - 1, "words of a device");
+static_assert(sizeof(dcmi_device) == 220 && sizeof(dcmi_answer) == 32 && sizeof(dcmi_item) == 32, "sizes");
+static_assert(DCMI_WORDS == 55 && DCMI_W_PARTIAL_BITS == 15 && DCMI_W_SLOT == 16 && DCMI_W_HELD == 48, "words of a device");
+static_assert(DCMI_W_DISCARDED == 53 && DCMI_W_DEPTH == DCMI_WORDS - 1, "words of a device");
 
 /* Each expression is a call that must answer as said; the exit status is the number of the first that does not. */
 int main(void)
@@ -26,7 +28,7 @@ int main(void)
     uint32_t value = 0, line = 9, sample = 0x3FFFF;
     size_t written = 0;
 
-    if (dcmi_reset(&device) != DCMI_OK) return 1;
+    if (dcmi_reset(&device) != DCMI_OK || device.word[DCMI_W_DEPTH] != 4) return 1;
     if (dcmi_write(&device, DCMI_CR, 0x48E3) != DCMI_OK) return 2;
     if (dcmi_read(&device, DCMI_CR, &value) != DCMI_OK || value != 0x48E3) return 3;
     if (dcmi_interrupt(&device, &line) != DCMI_OK || line != 0) return 4;
@@ -39,12 +41,17 @@ int main(void)
     if (dcmi_trace_write(&writes, &sample, 1, file, sizeof file, &written) != DCMI_OK || written != 16) return 8;
     if (dcmi_trace_item(file, written, 1, &item) != DCMI_OK || item.kind != DCMI_SAMPLE || item.value != sample) return 9;
     if (dcmi_run_file(&device, file, written, memory, sizeof memory, 0) != DCMI_OK || device.word[DCMI_W_SAMPLES] != 1) return 10;
+    if (dcmi_run_file_depth(&device, 32, file, written, memory, sizeof memory, 0) != DCMI_OK || device.word[DCMI_W_DEPTH] != 32) return 11;
+    if (dcmi_reset_depth(&device, 33) != DCMI_DEPTH || device.word[DCMI_W_SAMPLES] != 1) return 12;
+    if (dcmi_reset_depth(&device, 1) != DCMI_OK || device.word[DCMI_W_DEPTH] != 1 || device.word[DCMI_W_SAMPLES] != 0) return 13;
 
     /* Null pointers beside a length of 0. */
-    if (dcmi_sample(&device, NULL, 0, 0, sample, &answer) != DCMI_OK) return 11;
-    if (dcmi_run(&device, NULL, 0, 0, NULL, 0) != DCMI_OK) return 12;
-    if (dcmi_run_file(&device, NULL, 0, NULL, 0, 0) != DCMI_LENGTH) return 13;
-    if (dcmi_trace_write(&writes, NULL, 0, NULL, 0, &written) != DCMI_ROOM) return 14;
-    if (dcmi_trace_item(NULL, 0, 0, &item) != DCMI_LENGTH) return 15;
+    if (dcmi_sample(&device, NULL, 0, 0, sample, &answer) != DCMI_OK) return 14;
+    if (dcmi_run(&device, NULL, 0, 0, NULL, 0) != DCMI_OK) return 15;
+    if (dcmi_run_file(&device, NULL, 0, NULL, 0, 0) != DCMI_LENGTH) return 16;
+    if (dcmi_run_file_depth(&device, 4, NULL, 0, NULL, 0, 0) != DCMI_LENGTH) return 17;
+    if (dcmi_run_file_depth(&device, 0, NULL, 0, NULL, 0, 0) != DCMI_DEPTH) return 18;
+    if (dcmi_trace_write(&writes, NULL, 0, NULL, 0, &written) != DCMI_ROOM) return 19;
+    if (dcmi_trace_item(NULL, 0, 0, &item) != DCMI_LENGTH) return 20;
     return 0;
 }

@@ -6,14 +6,19 @@
 
 static uint64_t state;
 
-void random_seed(uint64_t seed) { state = seed * UINT64_C(0x9E3779B97F4A7C15) + 1; }
-
 uint64_t random_u64(void)
 {
     uint64_t z = state += UINT64_C(0x9E3779B97F4A7C15);
     z = (z ^ z >> 30) * UINT64_C(0xBF58476D1CE4E5B9);
     z = (z ^ z >> 27) * UINT64_C(0x94D049BB133111EB);
     return z ^ z >> 31;
+}
+
+/* The numbers of two seeds must not be the same ones, some places on: what they make would soon be the same too. */
+void random_seed(uint64_t seed)
+{
+    state = seed;
+    state = random_u64();
 }
 
 uint32_t random_u32(void) { return (uint32_t)(random_u64() >> 32); }
@@ -51,6 +56,18 @@ void scene_make(scene *s, uint32_t cr)
         s->width = between(1, 3);
     }
     s->clock = below(s->vblank + s->height * (s->hblank + s->width));
+}
+
+void scene_full(scene *s, uint32_t cr)
+{
+    *s = (scene){ .polarity = cr & 0xE0, .hold = 1 };
+    s->width = between(4, 40);
+    s->height = between(1, 6);
+    s->hblank = below(3);
+    s->vblank = between(1, 2);
+    s->grant = chance(1, 2) ? 0 : below(24);
+    s->pixels_first = chance(1, 2);
+    s->hsync_idle = chance(1, 2);
 }
 
 void scene_cropped(scene *s, uint32_t cr, uint32_t *cwstrt, uint32_t *cwsize)
@@ -92,6 +109,28 @@ uint32_t scene_sample(scene *s)
 void scene_samples(scene *s, uint32_t *samples, size_t count)
 {
     for (size_t i = 0; i < count; i++) samples[i] = scene_sample(s);
+}
+
+/* ---- depths ---- */
+
+uint32_t any_depth(void)
+{
+    static const uint32_t often[] = { 1, 2, 4, 32 };
+    return chance(1, 3) ? often[below(4)] : between(1, 32);
+}
+
+/* Near the ends, or with a good number in the low bits. */
+uint32_t bad_depth(void)
+{
+    const uint32_t above = UINT32_C(1) << between(6, 31);
+    switch (below(6)) {
+    case 0: return 0;
+    case 1: return 33;
+    case 2: return between(34, 300);
+    case 3: return above | between(1, 32);
+    case 4: return UINT32_MAX - below(34);
+    default: return random_u32() | above;
+    }
 }
 
 /* ---- register values ---- */
@@ -209,6 +248,7 @@ void image_well_formed(uint32_t *w)
 {
     const bool enabled = chance(7, 8);
     memset(w, 0, 4 * DCMI_WORDS);
+    w[DCMI_W_DEPTH] = any_depth();
     w[DCMI_W_CR] = enabled ? valid_cr() : valid_cr() & ~UINT32_C(0x4001);
     w[DCMI_W_RIS] = below(32);
     w[DCMI_W_IER] = below(32);
@@ -218,7 +258,7 @@ void image_well_formed(uint32_t *w)
     if (enabled) {
         w[DCMI_W_FRAME] = below(3);
         w[DCMI_W_RATE] = below(UINT32_C(1) << (w[DCMI_W_CR] >> 8 & 3));
-        w[DCMI_W_HELD] = chance(1, 3) ? 4 : below(5);
+        w[DCMI_W_HELD] = chance(1, 3) ? w[DCMI_W_DEPTH] : below(w[DCMI_W_DEPTH] + 1);
     }
     for (unsigned i = 0; i < w[DCMI_W_HELD]; i++) w[DCMI_W_SLOT + i] = random_u32();
     image_counts(w);
@@ -239,10 +279,12 @@ bool image_window(uint32_t *w)
     return true;
 }
 
-/* Too many held words, the equation of counts kept. */
+/* Too many held words, the equation of counts kept; at times as many as a depth that is too large. */
 static void image_overfull(uint32_t *w)
 {
-    const uint32_t held = chance(1, 2) ? 5 : chance(1, 2) ? between(5, 8) : w[DCMI_W_HELD] + (UINT32_C(1) << between(3, 30));
+    const uint32_t depth = w[DCMI_W_DEPTH], more = depth + 1;
+    const uint32_t held = chance(1, 2) ? more : chance(1, 2) ? between(more, more + 40) : w[DCMI_W_HELD] + (UINT32_C(1) << between(6, 30));
+    if (held > 32 && chance(1, 4)) w[DCMI_W_DEPTH] = held;
     w[DCMI_W_SAMPLES] |= UINT32_C(1) << 31;
     w[DCMI_W_COMPLETED] = held + w[DCMI_W_LANDED] % 1000;
     w[DCMI_W_LANDED] %= 1000;
@@ -278,14 +320,25 @@ unsigned image_bounds(const uint32_t *w, unsigned word, uint32_t *values)
     return first + second;
 }
 
+/* A word of an image; the slots are as often chosen as four others. */
+static unsigned any_word(void)
+{
+    enum { FEWER = DCMI_W_HELD - DCMI_W_SLOT - 4 };
+    const unsigned word = below(DCMI_WORDS - FEWER);
+    if (word < DCMI_W_SLOT) return word;
+    return word < DCMI_W_SLOT + 4 ? between(DCMI_W_SLOT, DCMI_W_HELD - 1) : word + FEWER;
+}
+
 void image_damage(uint32_t *w)
 {
-    if (chance(1, 8)) {
-        chance(1, 2) ? image_wrap(w) : image_overfull(w);
-        return;
+    switch (below(24)) {
+    case 0: image_wrap(w); return;
+    case 1: case 2: image_overfull(w); return;
+    case 3: w[DCMI_W_DEPTH] = bad_depth(); return;
+    default: break;
     }
     uint32_t values[MOST_BOUNDS];
-    const unsigned word = below(DCMI_WORDS), count = image_bounds(w, word, values);
+    const unsigned word = any_word(), count = image_bounds(w, word, values);
     w[word] = values[below(count)];
 }
 
@@ -312,6 +365,17 @@ void trace_valid(trace *t, size_t count)
     t->count = count;
     scene_samples(&s, t->samples, count);
     if (count && chance(1, 4)) t->samples[below((uint32_t)count)] = 0x3FFFF;
+}
+
+void trace_full(trace *t, size_t count)
+{
+    scene s;
+    const uint32_t cr = (valid_cr() | 0x1) & ~UINT32_C(0x4);
+    t->writes.count = 0;
+    trace_put(t, DCMI_CR, cr);
+    scene_full(&s, cr);
+    t->count = count;
+    scene_samples(&s, t->samples, count);
 }
 
 static uint8_t *number_out(uint8_t *at, uint32_t value, unsigned bytes)

@@ -29,10 +29,16 @@ typedef struct scene {
 } scene;
 
 void scene_make(scene *s, uint32_t cr);
+/* One of many pixels, most of whose words find no grant. */
+void scene_full(scene *s, uint32_t cr);
 /* One whose picture has a window in it, and most of whose words find a grant. */
 void scene_cropped(scene *s, uint32_t cr, uint32_t *cwstrt, uint32_t *cwsize);
 uint32_t scene_sample(scene *s);
 void scene_samples(scene *s, uint32_t *samples, size_t count);
+
+/* Depths of the FIFO, often 1, 2, 4 or 32; and numbers that are none. */
+uint32_t any_depth(void);
+uint32_t bad_depth(void);
 
 /* A CR value that a disabled device accepts, with ENABLE 1. */
 uint32_t valid_cr(void);
@@ -62,6 +68,8 @@ typedef struct trace {
 
 /* A trace that is accepted: a set-up, then a camera's samples. */
 void trace_valid(trace *t, size_t count);
+/* One of a scene_full, nothing cropped. */
+void trace_full(trace *t, size_t count);
 /* Its file, whatever it holds; returns the length. */
 size_t trace_file(const trace *t, uint8_t *file);
 

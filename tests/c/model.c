@@ -53,7 +53,7 @@ static inline void close_frame(camera *c)
 static inline void empty_fifo(camera *c)
 {
     c->discarded += c->held;
-    memset(c->fifo, 0, sizeof c->fifo);
+    memset(c->fifo, 0, c->held * sizeof *c->fifo);
     c->held = 0;
 }
 
@@ -90,11 +90,9 @@ static inline void grant(camera *c, uint8_t *memory, size_t length, size_t start
     const uint64_t at = 4 * (uint64_t)c->place;
     if (!(c->cr & ENABLE) || c->held == 0 || at + 4 > length - start) return;
     put(memory + start + at, c->fifo[0], 4);
-    c->fifo[0] = c->fifo[1];
-    c->fifo[1] = c->fifo[2];
-    c->fifo[2] = c->fifo[3];
-    c->fifo[3] = 0;
     c->held--;
+    if (c->held) memmove(c->fifo, c->fifo + 1, c->held * sizeof *c->fifo);
+    c->fifo[c->held] = 0;
     c->place++;
     c->landed++;
     out->landed = true;
@@ -176,11 +174,11 @@ static inline bool pack(camera *c, uint32_t sample, uint32_t *word)
     return true;
 }
 
-/* Rule 9. A full word is completed: held, or with four held lost with them. */
+/* Rule 9. A full word is completed: held, or, W9, with as many held as the depth, lost with them. */
 static inline void complete(camera *c, uint32_t word, outcome *out)
 {
     c->completed++;
-    if (c->held < 4) {
+    if (c->held < c->depth) {
         c->fifo[c->held++] = word;
         out->packed = PACKED_WORD;
         out->word = word;
@@ -250,10 +248,13 @@ static bool bad_sample(const uint32_t *samples, size_t count)
     return all >> 18;
 }
 
-/* Malformed, 1: the clauses of its paragraph. */
+/* 18, and a clause of malformed. W9. */
+static bool bad_depth(uint32_t depth) { return depth == 0 || depth > 32; }
+
+/* Malformed, 1: the clauses of its paragraph. W9: the depth for four; slots beyond the depth are unused too. */
 static bool unused_slot(const camera *c)
 {
-    for (uint32_t i = c->held; i < 4; i++)
+    for (uint32_t i = c->held; i < SLOTS; i++)
         if (c->fifo[i]) return true;
     return false;
 }
@@ -267,7 +268,8 @@ static bool unused_partial_bits(const camera *c)
 
 static bool malformed(const camera *c)
 {
-    return c->held > 4
+    return bad_depth(c->depth)
+        || c->held > c->depth
         || unused_slot(c) || unused_partial_bits(c)
         || c->data >= 32 / lane_bits(c->cr)
         || (c->cr & ~bits_of(CR)) || (c->cwstrt & ~bits_of(CWSTRT)) || (c->cwsize & ~bits_of(CWSIZE)) || unsupported(c->cr)
@@ -303,10 +305,15 @@ static uint32_t run_refusal(const camera *c, size_t length, size_t start, const 
 
 /* ---- The calls on a device ---- */
 
-void model_reset(camera *c)
+/* W9: 18 is the first check where a device is made. */
+uint32_t model_reset_depth(camera *c, uint32_t depth)
 {
-    *c = (camera){ 0 };
+    if (bad_depth(depth)) return 18;
+    *c = (camera){ .depth = depth };
+    return 0;
 }
+
+void model_reset(camera *c) { model_reset_depth(c, USUAL_DEPTH); }
 
 /* A write to a device that is known to be well-formed. */
 static uint32_t write_register(camera *c, uint32_t offset, uint32_t value)
@@ -410,15 +417,16 @@ static uint32_t header_refusal(const uint8_t *file, size_t length, size_t *write
     return 0;
 }
 
-/* Then the first refused write's number, 9, 7, on a fresh device; 8 cannot come of so few samples. */
-uint32_t model_run_file(camera *c, const uint8_t *file, size_t file_length, uint8_t *memory, size_t length, size_t start)
+/* W9: 18 first. Then the form checks, the first refused write's number, 9, 7, on a fresh device; 8 cannot come of so few samples. */
+uint32_t model_run_file_depth(camera *c, uint32_t depth, const uint8_t *file, size_t file_length, uint8_t *memory, size_t length, size_t start)
 {
     size_t writes, samples;
-    uint32_t refusal = header_refusal(file, file_length, &writes, &samples);
-    if (refusal) return refusal;
     camera fresh;
     outcome unused;
-    model_reset(&fresh);
+    uint32_t refusal = model_reset_depth(&fresh, depth);
+    if (refusal) return refusal;
+    refusal = header_refusal(file, file_length, &writes, &samples);
+    if (refusal) return refusal;
     for (size_t i = 0; i < writes; i++) {
         const uint8_t *at = write_at(file, i);
         refusal = write_register(&fresh, at[0], number(at + 1, 4));
@@ -432,6 +440,11 @@ uint32_t model_run_file(camera *c, const uint8_t *file, size_t file_length, uint
     for (size_t i = 0; i < samples; i++) step(&fresh, memory, length, start, sample_at(file, writes, i), &unused);
     *c = fresh;
     return 0;
+}
+
+uint32_t model_run_file(camera *c, const uint8_t *file, size_t file_length, uint8_t *memory, size_t length, size_t start)
+{
+    return model_run_file_depth(c, USUAL_DEPTH, file, file_length, memory, length, start);
 }
 
 /* The writer: 14, 12, 7, 15. Bytes after what it writes stay. */
@@ -491,6 +504,7 @@ bool model_from_image(camera *c, const uint32_t *w)
         .frame = (frame_state)w[DCMI_W_FRAME], .lines = w[DCMI_W_LINES], .pixels = w[DCMI_W_PIXELS], .rate = w[DCMI_W_RATE],
         .data = w[DCMI_W_PARTIAL_COUNT], .partial = w[DCMI_W_PARTIAL_BITS], .held = w[DCMI_W_HELD], .place = w[DCMI_W_PLACE],
         .samples = w[DCMI_W_SAMPLES], .completed = w[DCMI_W_COMPLETED], .landed = w[DCMI_W_LANDED], .discarded = w[DCMI_W_DISCARDED],
+        .depth = w[DCMI_W_DEPTH],
     };
     memcpy(c->fifo, w + DCMI_W_SLOT, sizeof c->fifo);
     return true;
@@ -521,4 +535,5 @@ void model_to_image(const camera *c, uint32_t *w)
     w[DCMI_W_COMPLETED] = c->completed;
     w[DCMI_W_LANDED] = c->landed;
     w[DCMI_W_DISCARDED] = c->discarded;
+    w[DCMI_W_DEPTH] = c->depth;
 }

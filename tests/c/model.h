@@ -15,6 +15,9 @@ enum { F_FRAME = 1 << 0, F_OVR = 1 << 1, F_ERR = 1 << 2, F_VSYNC = 1 << 3, F_LIN
 /* Bits of the remembered levels and blankings, in a sample's order. */
 enum { HSYNC = 1 << 0, VSYNC = 1 << 1, CLOCK = 1 << 2 };
 
+/* W9: a FIFO has a depth of 1 to 32, fixed when the device is made; four where none is named. */
+enum { SLOTS = 32, USUAL_DEPTH = 4 };
+
 typedef enum { FRAME_CLOSED, FRAME_UNTAKEN, FRAME_TAKEN } frame_state;
 
 typedef struct camera {
@@ -25,7 +28,8 @@ typedef struct camera {
     uint32_t lines, pixels;       /* lines begun in the open frame, pixels of the last one */
     uint32_t rate;                /* the rate counter */
     uint32_t data, partial;       /* the partial word: how many data, and their bits */
-    uint32_t fifo[4], held;       /* held words, oldest first, then zeros */
+    uint32_t fifo[SLOTS], held;   /* held words, oldest first, then zeros */
+    uint32_t depth;               /* how many words the FIFO can hold */
     uint32_t place;               /* number of the next word to land */
     uint32_t samples, completed, landed, discarded;
 } camera;
@@ -52,6 +56,7 @@ typedef struct trace_item {
 
 /* The calls. Each answers 0 or a refusal number; a refusal changes nothing. */
 void model_reset(camera *c);
+uint32_t model_reset_depth(camera *c, uint32_t depth);
 uint32_t model_write(camera *c, uint32_t offset, uint32_t value);
 uint32_t model_read(const camera *c, uint32_t offset, uint32_t *value);
 uint32_t model_interrupt(const camera *c, bool *up);
@@ -59,6 +64,7 @@ uint32_t model_rearm(camera *c);
 uint32_t model_sample(camera *c, uint8_t *memory, size_t length, size_t start, uint32_t sample, outcome *out);
 uint32_t model_run(camera *c, uint8_t *memory, size_t length, size_t start, const uint32_t *samples, size_t count);
 uint32_t model_run_file(camera *c, const uint8_t *file, size_t file_length, uint8_t *memory, size_t length, size_t start);
+uint32_t model_run_file_depth(camera *c, uint32_t depth, const uint8_t *file, size_t file_length, uint8_t *memory, size_t length, size_t start);
 uint32_t model_trace_write(size_t writes, const uint8_t *offsets, const uint32_t *values, const uint32_t *samples, size_t count, uint8_t *out,
                            size_t length, size_t *written);
 uint32_t model_trace_item(const uint8_t *file, size_t length, size_t place, trace_item *item);

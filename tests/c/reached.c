@@ -7,8 +7,8 @@
 #include "model.h"
 
 const char *const call_name[CALLS] = {
-    "dcmi_reset", "dcmi_write", "dcmi_read", "dcmi_interrupt", "dcmi_rearm", "dcmi_sample", "dcmi_run", "dcmi_run_file", "dcmi_trace_write",
-    "dcmi_trace_item",
+    "dcmi_reset", "dcmi_reset_depth", "dcmi_write", "dcmi_read", "dcmi_interrupt", "dcmi_rearm", "dcmi_sample", "dcmi_run", "dcmi_run_file",
+    "dcmi_run_file_depth", "dcmi_trace_write", "dcmi_trace_item",
 };
 
 /* ---- what is to be reached ---- */
@@ -90,13 +90,15 @@ const char *const call_name[CALLS] = {
     X(R8_FULL_12, "rule 8: 12 bits, full word") \
     X(R8_FULL_14, "rule 8: 14 bits, full word") \
     X(R8_ACROSS, "rule 8: a line's first pixel goes on with a partial word") \
-    X(R9_HELD_0, "rule 9: held, none before") \
-    X(R9_HELD_1, "rule 9: held, one before") \
-    X(R9_HELD_2, "rule 9: held, two before") \
-    X(R9_HELD_3, "rule 9: held, three before") \
-    X(R9_AFTER_GRANT, "rule 9: held because the same sample's grant made room") \
-    X(R9_OVERRUN, "rule 9: overrun, CM 0") \
-    X(R9_OVERRUN_SNAPSHOT, "rule 9: overrun, CM 1, CAPTURE cleared") \
+    X(R9_OVERRUN_NO_ROOM, "rule 9: overrun, granted, but memory had no room") \
+    X(W9_RESET_0, "W9: dcmi_reset_depth refused at depth 0, a device in use stays") \
+    X(W9_RESET_33, "W9: dcmi_reset_depth refused at depth 33, a device in use stays") \
+    X(W9_RESET_ABOVE, "W9: dcmi_reset_depth refused above 33, a device in use stays") \
+    X(W9_RESET_LOW, "W9: dcmi_reset_depth refused, the depth's low byte is 1 to 32") \
+    X(W9_FILE_0, "W9: an accepted file refused at depth 0, a device in use stays") \
+    X(W9_FILE_33, "W9: an accepted file refused at depth 33, a device in use stays") \
+    X(W9_FILE_ABOVE, "W9: an accepted file refused above 33, a device in use stays") \
+    X(W9_FILE_LOW, "W9: an accepted file refused, the depth's low byte is 1 to 32") \
     X(CR_SAME, "CR: the value it holds") \
     X(CR_DISABLED, "CR: written while disabled, stays so") \
     X(CR_ENABLE, "CR: ENABLE rises") \
@@ -131,8 +133,12 @@ const char *const call_name[CALLS] = {
     X(NO_FRAME, "image: frame above 2, and nothing else") \
     X(NO_LINES, "image: lines in a closed frame, and nothing else") \
     X(NO_PIXELS, "image: pixels in a closed frame, and nothing else") \
-    X(M_HELD, "malformed: more than four held, and nothing else") \
-    X(M_SLOT, "malformed: an unused slot not 0, and nothing else") \
+    X(M_DEPTH_0, "malformed: depth 0, and nothing else") \
+    X(M_DEPTH_33, "malformed: depth 33, and nothing else") \
+    X(M_DEPTH_ABOVE, "malformed: depth above 33, and nothing else") \
+    X(M_HELD, "malformed: more held than the depth, and nothing else") \
+    X(M_SLOT, "malformed: unused slots below the depth not 0, and nothing else") \
+    X(M_SLOT_BEYOND, "malformed: slots beyond the depth not 0, and nothing else") \
     X(M_PARTIAL, "malformed: unused partial bits not 0, and nothing else") \
     X(M_DATA, "malformed: as many partial data as a full word, and nothing else") \
     X(M_CR_RESERVED, "malformed: reserved bit of CR, and nothing else") \
@@ -152,6 +158,7 @@ const char *const call_name[CALLS] = {
     X(M_COMPLETED, "malformed: completed above samples, and nothing else") \
     X(M_PLACE, "malformed: place above landed, and nothing else") \
     X(M_EQUATION, "malformed: equation of counts, and nothing else") \
+    X(M_DEPTH_HELD, "malformed: depth above 32 and as many held, and nothing else") \
     X(FILE_SHORT, "file: fewer than 8 bytes") \
     X(FILE_LENGTH, "file: length not as the header says") \
     X(FILE_WRITE, "file: a write refused after an accepted one") \
@@ -169,11 +176,43 @@ const char *const call_name[CALLS] = {
 typedef enum { BRANCHES(BRANCH_NAME) BRANCH_COUNT } branch;
 #undef BRANCH_NAME
 
+/* What is to be reached for each number from 1 to 32: for each depth, where nothing else is said. */
+#define TABLES(X) \
+    X(T_LANDED, "rule 1: a held word lands, for each number held") \
+    X(T_HELD, "rule 9: held, as the first and so on to the 32nd") \
+    X(T_LAST, "rule 9: held as the last that the depth allows") \
+    X(T_AFTER_GRANT, "rule 9: held because the same sample's grant made room") \
+    X(T_OVERRUN, "rule 9: overrun, CM 0") \
+    X(T_OVERRUN_SNAPSHOT, "rule 9: overrun, CM 1, CAPTURE cleared") \
+    X(T_RUN_OVERRUN, "rule 9: overrun inside a run") \
+    X(T_FILE_OVERRUN, "rule 9: overrun inside a file at a named depth") \
+    X(T_DISABLE, "CR: ENABLE falls with the FIFO full, all discarded") \
+    X(T_RESET, "dcmi_reset_depth accepted, over a device in use") \
+    X(T_WRITE, "dcmi_write accepted") \
+    X(T_READ, "dcmi_read accepted") \
+    X(T_INTERRUPT, "dcmi_interrupt accepted") \
+    X(T_REARM, "dcmi_rearm accepted") \
+    X(T_SAMPLE, "dcmi_sample accepted") \
+    X(T_RUN, "dcmi_run accepted") \
+    X(T_FILE, "dcmi_run_file_depth accepted") \
+    X(T_MORE_HELD, "malformed: one more held than the depth, and nothing else") \
+    X(T_SLOT, "malformed: one unused slot not 0, for each slot, and nothing else")
+
+#define TABLE_NAME(name, text) name,
+typedef enum { TABLES(TABLE_NAME) TABLE_COUNT } table;
+#undef TABLE_NAME
+
 enum { FIRST_FAULT = NO_LEVEL, FAULTS = M_EQUATION + 1 - NO_LEVEL };
 
-static uint64_t hits[BRANCH_COUNT];
+static uint64_t hits[BRANCH_COUNT], each[TABLE_COUNT][SLOTS + 1];
 
 static inline void seen(bool holds, branch which) { hits[which] += holds; }
+
+/* Only numbers from 1 to 32 are counted. */
+static inline void seen_at(bool holds, table which, uint32_t number)
+{
+    if (holds && 1 <= number && number <= SLOTS) each[which][number]++;
+}
 
 static inline uint32_t fcrc(uint32_t cr) { return cr >> 8 & 3; }
 static inline uint32_t edm(uint32_t cr) { return cr >> 10 & 3; }
@@ -181,7 +220,7 @@ static inline uint32_t edm(uint32_t cr) { return cr >> 10 & 3; }
 /* ---- one sample ---- */
 
 /* Rules 8 and 9, of a captured pixel. */
-static void reached_word(const camera *before, const camera *after, bool line_begins)
+static void reached_word(const camera *before, uint32_t sample, const camera *after, bool line_begins)
 {
     const bool full = after->completed != before->completed, landed = after->landed != before->landed, lost = after->discarded != before->discarded;
     const uint32_t cleared = before->cr & ~after->cr;
@@ -189,15 +228,17 @@ static void reached_word(const camera *before, const camera *after, bool line_be
     seen(full, R8_FULL_8 + edm(before->cr));
     seen(line_begins && before->data, R8_ACROSS);
     if (!full) return;
-    if (!lost) hits[R9_HELD_0 + before->held - landed]++;
-    seen(!lost && landed && before->held == 4, R9_AFTER_GRANT);
-    seen(lost && !(before->cr & CM), R9_OVERRUN);
-    seen(lost && (cleared & CAPTURE), R9_OVERRUN_SNAPSHOT);
+    seen_at(!lost, T_HELD, after->held);
+    seen_at(!lost && !landed && after->held == before->depth, T_LAST, before->depth);
+    seen_at(!lost && landed && before->held == before->depth, T_AFTER_GRANT, before->depth);
+    seen_at(lost && !(before->cr & CM), T_OVERRUN, before->depth);
+    seen_at(lost && (cleared & CAPTURE), T_OVERRUN_SNAPSHOT, before->depth);
+    seen(lost && sample >> 17 & 1, R9_OVERRUN_NO_ROOM);
     seen(lost && (before->cr & CROP) && !(after->ris & F_FRAME), W1_OVERRUN);
 }
 
 /* Rules 6 and 7, of a pixel: at a working edge in a frame that was open or starts, with no sync blanking. */
-static void reached_pixel(const camera *before, const camera *after)
+static void reached_pixel(const camera *before, uint32_t sample, const camera *after)
 {
     const bool blanked = before->blanked & HSYNC, begins = blanked || before->lines == 0;
     seen(blanked, R6_BLANKED);
@@ -218,7 +259,7 @@ static void reached_pixel(const camera *before, const camera *after)
     seen(!captured && line > last_line, R7_LINE_AFTER);
     seen(!captured && first_line <= line && line <= last_line && column < first_column, R7_COLUMN_BEFORE);
     seen(!captured && first_line <= line && line <= last_line && column > last_column, R7_COLUMN_AFTER);
-    if (captured) reached_word(before, after, begins);
+    if (captured) reached_word(before, sample, after, begins);
 }
 
 /* Rule 4 with W1, of a frame that was open: FRAME and line VST + VLINE, the window's last. */
@@ -262,7 +303,7 @@ static void reached_window(const camera *before, const camera *after)
 }
 
 /* Rules 3 to 5, and on to a pixel: a working edge with ENABLE 1. */
-static void reached_edge(const camera *before, const camera *after)
+static void reached_edge(const camera *before, uint32_t sample, const camera *after)
 {
     const uint32_t blanks = after->blanked, begins = blanks & ~before->blanked, ends = before->blanked & ~blanks, raised = after->ris & ~before->ris;
     const bool closed = before->frame == FRAME_CLOSED, cm = before->cr & CM, crop = before->cr & CROP;
@@ -296,7 +337,7 @@ static void reached_edge(const camera *before, const camera *after)
 
     if (closed && !started) return;
     seen(blanks & HSYNC, R6_HSYNC);
-    if (!blanks) reached_pixel(before, after);
+    if (!blanks) reached_pixel(before, sample, after);
 }
 
 /* An accepted sample. */
@@ -304,6 +345,7 @@ static void reached_sample(const camera *before, uint32_t sample, const camera *
 {
     const bool enabled = before->cr & ENABLE, granted = sample >> 17 & 1, landed = after->landed != before->landed;
     seen(landed, R1_LANDED);
+    seen_at(landed, T_LANDED, before->held);
     seen(landed && !(before->cr & CAPTURE), R1_LANDED_CAPTURE_0);
     seen(granted && enabled && before->held && !landed, R1_NO_ROOM);
     seen(granted && enabled && !before->held, R1_NONE_HELD);
@@ -316,7 +358,7 @@ static void reached_sample(const camera *before, uint32_t sample, const camera *
     seen(edge && right && !enabled, R2_DISABLED);
     seen(edge && right && enabled && high, R2_ROSE);
     seen(edge && right && enabled && !high, R2_FELL);
-    if (edge && right && enabled) reached_edge(before, after);
+    if (edge && right && enabled) reached_edge(before, sample, after);
 }
 
 /* ---- register calls, the line, re-arming ---- */
@@ -331,6 +373,7 @@ static void reached_cr(const camera *before, const camera *after)
     seen((rises & ENABLE) && before->blanked && !after->blanked, CR_ENABLE_BLANKED);
     seen(disabled, CR_DISABLE);
     seen(disabled && after->discarded != before->discarded, CR_DISABLE_HELD);
+    seen_at(disabled && before->held == before->depth && after->discarded == before->discarded + before->depth, T_DISABLE, before->depth);
     seen(disabled && before->data && !after->data, CR_DISABLE_PARTIAL);
     seen(disabled && before->frame == FRAME_TAKEN, CR_DISABLE_TAKEN);
     seen(disabled && before->frame == FRAME_UNTAKEN, CR_DISABLE_UNTAKEN);
@@ -392,7 +435,7 @@ static void follow_driver(const call *made)
     static unsigned done;                      /* how many calls of the set-up; all, until the device is disabled */
     static bool read_refused, disable_refused; /* what the last register call was */
     const uint32_t cr = made->before[DCMI_W_CR], changes = cr ^ made->after[DCMI_W_CR];
-    if (made->number == 1 || made->kind == RESET || made->kind == RUN_FILE) done = 0;
+    if (made->number == 1 || made->kind <= RESET_DEPTH || made->kind == RUN_FILE || made->kind == RUN_FILE_DEPTH) done = 0;
     if (made->kind == SAMPLE || made->kind == RUN) seen(done == SET_UP && made->after[DCMI_W_LANDED] != made->before[DCMI_W_LANDED], DRIVER_LANDED);
     if (made->kind != WRITE && (made->kind != READ || made->answer == 0)) return;
     if (done < SET_UP) {
@@ -430,16 +473,26 @@ static uint64_t image_faults(const uint32_t *w)
          | fault(closed && w[DCMI_W_PIXELS], NO_PIXELS);
 }
 
+/* Whether unused slots from one on are not 0, before another. */
+static bool slots_not_0(const uint32_t *w, uint32_t first, uint32_t end)
+{
+    for (uint32_t i = first; i < end && i < SLOTS; i++)
+        if (w[DCMI_W_SLOT + i]) return true;
+    return false;
+}
+
 /* What makes a device malformed. */
 static uint64_t device_faults(const uint32_t *w)
 {
-    const uint32_t cr = w[DCMI_W_CR], held = w[DCMI_W_HELD], data = w[DCMI_W_PARTIAL_COUNT], most = w[DCMI_W_SAMPLES];
+    const uint32_t depth = w[DCMI_W_DEPTH], cr = w[DCMI_W_CR], held = w[DCMI_W_HELD], data = w[DCMI_W_PARTIAL_COUNT], most = w[DCMI_W_SAMPLES];
     const uint32_t full = edm(cr) ? 2 : 4, used = data * (8 + 2 * edm(cr));
     const bool off = !(cr & ENABLE);
-    bool slot = false;
-    for (uint32_t i = held; i < 4; i++) slot |= w[DCMI_W_SLOT + i] != 0;
-    return fault(held > 4, M_HELD)
-         | fault(slot, M_SLOT)
+    return fault(depth == 0, M_DEPTH_0)
+         | fault(depth == SLOTS + 1, M_DEPTH_33)
+         | fault(depth > SLOTS + 1, M_DEPTH_ABOVE)
+         | fault(held > depth, M_HELD)
+         | fault(slots_not_0(w, held, depth), M_SLOT)
+         | fault(slots_not_0(w, held > depth ? held : depth, SLOTS), M_SLOT_BEYOND)
          | fault(data < full && w[DCMI_W_PARTIAL_BITS] >> used, M_PARTIAL)
          | fault(data >= full, M_DATA)
          | fault(cr & ~bits_of(DCMI_CR), M_CR_RESERVED)
@@ -461,6 +514,18 @@ static uint64_t device_faults(const uint32_t *w)
          | fault(w[DCMI_W_COMPLETED] != (uint64_t)w[DCMI_W_LANDED] + held + w[DCMI_W_DISCARDED], M_EQUATION);
 }
 
+/* An image with unused slots not 0: which, if it is one. */
+static void reached_slot(const uint32_t *w)
+{
+    uint32_t found = 0, count = 0;
+    for (uint32_t i = w[DCMI_W_HELD]; i < SLOTS; i++) {
+        if (!w[DCMI_W_SLOT + i]) continue;
+        found = i + 1;
+        count++;
+    }
+    seen_at(count == 1, T_SLOT, found);
+}
+
 /* Whether an image is refused 1. A fault counts where it is the only one; a partial word with ENABLE 0 cannot be. */
 static bool reached_image(const uint32_t *image)
 {
@@ -469,6 +534,11 @@ static bool reached_image(const uint32_t *image)
     if (!faults) return false;
     for (unsigned i = 0; i < FAULTS; i++) seen(faults == UINT64_C(1) << i, FIRST_FAULT + i);
     seen(faults & fault(true, M_OFF_PARTIAL), M_OFF_PARTIAL);
+    const uint32_t depth = image[DCMI_W_DEPTH], held = image[DCMI_W_HELD];
+    const bool too_deep = faults == fault(true, M_DEPTH_33) || faults == fault(true, M_DEPTH_ABOVE);
+    seen(too_deep && held == depth, M_DEPTH_HELD);
+    seen_at(faults == fault(true, M_HELD) && held == depth + 1, T_MORE_HELD, depth);
+    if (faults == fault(true, M_SLOT) || faults == fault(true, M_SLOT_BEYOND)) reached_slot(image);
     return true;
 }
 
@@ -483,6 +553,7 @@ static void walk_sample(camera *c, const call *made, uint32_t sample)
     outcome unused;
     model_sample(c, made->memory, made->memory_length, made->start, sample, &unused);
     reached_sample(&before, sample, c);
+    seen_at(c->discarded != before.discarded, made->kind == RUN ? T_RUN_OVERRUN : T_FILE_OVERRUN, made->kind == RUN_FILE ? 0 : c->depth);
     samples_made++;
 }
 
@@ -528,7 +599,7 @@ static bool reached_file(const call *made)
     seen(made->answer == 13 && made->length >= 8, FILE_LENGTH);
     if (made->answer > 6) return true;
     camera c;
-    model_reset(&c);
+    model_reset_depth(&c, made->depth);
     const unsigned writes = made->file[5], samples = number_at(made->file + 6, 2), accepted = walk_writes(&c, made->file);
     seen(made->answer && accepted, FILE_WRITE);
     if (made->answer) return accepted < writes;
@@ -536,6 +607,7 @@ static bool reached_file(const call *made)
     seen(true, FILE_RUN);
     seen(writes == 0 && samples == 0, FILE_EMPTY);
     seen(writes == 255 && samples == 16384, FILE_FULL);
+    seen_at(made->kind == RUN_FILE_DEPTH, T_FILE, made->depth);
     return walked_well(&c, made);
 }
 
@@ -567,13 +639,15 @@ static const struct {
     uint8_t number[MOST_REASONS];
     uint32_t never[MOST_REASONS]; /* bit j of entry i: reasons i and j cannot stand together */
 } order[CALLS] = {
+    [RESET_DEPTH] = { 1, { 18 }, { 0 } },
     [WRITE] = { 6, { 1, 2, 3, 4, 5, 6 }, { 0, 0x3C, 0x30 } },
     [READ] = { 3, { 1, 2, 3 }, { 0, 0x4 } },
     [INTERRUPT] = { 1, { 1 }, { 0 } },
     [REARM] = { 1, { 1 }, { 0 } },
     [SAMPLE] = { 4, { 1, 9, 7, 8 }, { 0 } },
     [RUN] = { 4, { 1, 9, 7, 8 }, { 0 } },
-    [RUN_FILE] = { 8, { 13, 10, 11, 12, 13, 0, 9, 7 }, { 0xB8, 0x20, 0x20, 0x20, 0xA0 } },
+    [RUN_FILE] = { 8, { 13, 10, 11, 12, 13, 0, 9, 7 }, { 0xB8, 0, 0, 0, 0xA0 } },
+    [RUN_FILE_DEPTH] = { 9, { 18, 13, 10, 11, 12, 13, 0, 9, 7 }, { 0, 0x170, 0, 0, 0, 0x140 } },
     [TRACE_WRITE] = { 4, { 14, 12, 7, 15 }, { 0 } },
     [TRACE_ITEM] = { 6, { 13, 10, 11, 12, 13, 7 }, { 0x38, 0, 0, 0, 0x20 } },
 };
@@ -640,13 +714,23 @@ static uint32_t header_reasons(const call *made, size_t *body, size_t *count)
 
 static bool bad_at(const uint8_t *file, size_t body, size_t i) { return file[body + 3 * i + 2] > 3; }
 
+/* Whether a write is refused on a fresh device; its depth makes no difference. */
+static bool refused_write(const uint8_t *file)
+{
+    camera c;
+    model_reset(&c);
+    for (unsigned i = 0; i < file[5]; i++)
+        if (model_write(&c, file[8 + 5 * i], number_at(file + 9 + 5 * i, 4))) return true;
+    return false;
+}
+
 static uint32_t file_reasons(const call *made)
 {
     size_t body, count;
     bool bad = false;
     const uint32_t header = header_reasons(made, &body, &count);
     for (size_t i = 0; body && i < count && !bad; i++) bad = bad_at(made->file, body, i);
-    return header | reason(made->answer >= 2 && made->answer <= 6, 5) | reason(made->start > made->memory_length, 6) | reason(bad, 7);
+    return header | reason(body && refused_write(made->file), 5) | reason(made->start > made->memory_length, 6) | reason(bad, 7);
 }
 
 static uint32_t item_reasons(const call *made)
@@ -667,6 +751,9 @@ static uint32_t writer_reasons(const call *made)
          | reason(writes > many || made->count > many || 8 + 5 * writes + 3 * made->count > made->length, 3);
 }
 
+/* W9: 18. */
+static bool bad_depth(uint32_t depth) { return depth - 1 >= SLOTS; }
+
 static uint32_t reasons_of(const call *made)
 {
     const bool on_device = WRITE <= made->kind && made->kind <= RUN, malformed = on_device && reached_image(made->before);
@@ -674,7 +761,9 @@ static uint32_t reasons_of(const call *made)
     case WRITE: return write_reasons(made, malformed);
     case READ: return read_reasons(made, malformed);
     case SAMPLE: case RUN: return run_reasons(made, malformed);
+    case RESET_DEPTH: return reason(bad_depth(made->depth), 0);
     case RUN_FILE: return file_reasons(made);
+    case RUN_FILE_DEPTH: return reason(bad_depth(made->depth), 0) | file_reasons(made) << 1;
     case TRACE_WRITE: return writer_reasons(made);
     case TRACE_ITEM: return item_reasons(made);
     default: return reason(malformed, 0);
@@ -697,6 +786,28 @@ static bool reached_reasons(const call *made)
 }
 
 /* ---- a call ---- */
+
+/* W9, where a device is made at a named depth: `first` is the first of four branches. A device in use is one with samples. */
+static void reached_depth(const call *made, branch first)
+{
+    const uint32_t depth = made->depth, low = depth & 0xFF;
+    const bool stays = made->answer == 18 && made->before[DCMI_W_SAMPLES] && memcmp(made->before, made->after, sizeof made->before) == 0;
+    seen(stays && depth == 0, first);
+    seen(stays && depth == 33, first + 1);
+    seen(stays && depth > 33, first + 2);
+    seen(stays && 1 <= low && low <= 32, first + 3);
+}
+
+/* A file that its depth alone refuses. */
+static bool only_18(const call *made) { return made->answer == 18 && reasons_of(made) == 1; }
+
+/* Accepted calls on a device. */
+static void reached_at_depth(const call *made)
+{
+    const uint32_t depth = made->after[DCMI_W_DEPTH];
+    if (made->kind == RESET_DEPTH) seen_at(made->before[DCMI_W_SAMPLES], T_RESET, depth);
+    if (WRITE <= made->kind && made->kind <= RUN) seen_at(true, T_WRITE + (made->kind - WRITE), depth);
+}
 
 static void reached_device(const call *made)
 {
@@ -725,9 +836,12 @@ const char *reached_call(const call *made)
     if (!reached_reasons(made)) return "the answer is not the first reason in the paper's order";
     answers[made->kind][made->answer]++;
     follow_driver(made);
+    if (made->answer == 0) reached_at_depth(made);
+    if (made->kind == RESET_DEPTH) reached_depth(made, W9_RESET_0);
+    if (made->kind == RUN_FILE_DEPTH && only_18(made)) reached_depth(made, W9_FILE_0);
     if (made->answer == 0 && made->kind < RUN) reached_device(made);
     if (made->answer == 0 && made->kind == RUN && !reached_run(made)) return "the model's run is not its samples one by one";
-    if (made->kind == RUN_FILE && !reached_file(made)) return "the model's file is not its writes and samples one by one";
+    if ((made->kind == RUN_FILE || made->kind == RUN_FILE_DEPTH) && !reached_file(made)) return "the model's file is not its writes and samples one by one";
     if (made->kind == TRACE_ITEM) reached_item(made);
     if (made->kind == TRACE_WRITE) reached_writer(made);
     return NULL;
@@ -736,17 +850,21 @@ const char *reached_call(const call *made)
 /* ---- the summary ---- */
 
 #define ANSWER(number) (UINT32_C(1) << (number))
+#define FILE_ANSWERS \
+    (ANSWER(0) | ANSWER(2) | ANSWER(3) | ANSWER(4) | ANSWER(5) | ANSWER(6) | ANSWER(7) | ANSWER(9) | ANSWER(10) | ANSWER(11) | ANSWER(12) | ANSWER(13))
 
 /* The answers that each call must have given. */
 static const uint32_t expected[CALLS] = {
     [RESET] = ANSWER(0),
+    [RESET_DEPTH] = ANSWER(0) | ANSWER(18),
     [WRITE] = ANSWER(0) | ANSWER(1) | ANSWER(2) | ANSWER(3) | ANSWER(4) | ANSWER(5) | ANSWER(6),
     [READ] = ANSWER(0) | ANSWER(1) | ANSWER(2) | ANSWER(3),
     [INTERRUPT] = ANSWER(0) | ANSWER(1),
     [REARM] = ANSWER(0) | ANSWER(1),
     [SAMPLE] = ANSWER(0) | ANSWER(1) | ANSWER(7) | ANSWER(8) | ANSWER(9),
     [RUN] = ANSWER(0) | ANSWER(1) | ANSWER(7) | ANSWER(8) | ANSWER(9),
-    [RUN_FILE] = ANSWER(0) | ANSWER(2) | ANSWER(3) | ANSWER(4) | ANSWER(5) | ANSWER(6) | ANSWER(7) | ANSWER(9) | ANSWER(10) | ANSWER(11) | ANSWER(12) | ANSWER(13),
+    [RUN_FILE] = FILE_ANSWERS,
+    [RUN_FILE_DEPTH] = FILE_ANSWERS | ANSWER(18),
     [TRACE_WRITE] = ANSWER(0) | ANSWER(7) | ANSWER(12) | ANSWER(14) | ANSWER(15),
     [TRACE_ITEM] = ANSWER(0) | ANSWER(7) | ANSWER(10) | ANSWER(11) | ANSWER(12) | ANSWER(13),
 };
@@ -772,7 +890,7 @@ static bool answers_summary(void)
         uint64_t calls = 0;
         for (unsigned n = 0; n < REFUSAL_NUMBERS; n++) calls += answers[kind][n];
         all += calls;
-        printf("  %-17s %9" PRIu64 ":", call_name[kind], calls);
+        printf("  %-19s %9" PRIu64 ":", call_name[kind], calls);
         for (unsigned n = 0; n < REFUSAL_NUMBERS; n++) {
             const bool due = expected[kind] >> n & 1, given = answers[kind][n];
             if (!due && !given) continue;
@@ -792,7 +910,7 @@ static bool orders_summary(void)
     printf("Two reasons for a refusal at once, the first one answered (w: a refused write of a file):\n");
     for (unsigned kind = 0; kind < CALLS; kind++) {
         if (order[kind].count < 2) continue;
-        printf("  %-17s", call_name[kind]);
+        printf("  %-19s", call_name[kind]);
         for (unsigned i = 0; i < order[kind].count; i++) {
             for (unsigned j = i + 1; j < order[kind].count; j++) {
                 if (order[kind].never[i] >> j & 1) continue;
@@ -821,8 +939,25 @@ static bool branches_summary(void)
     return complete;
 }
 
+static bool tables_summary(void)
+{
+#define TABLE_TEXT(name, text) text,
+    static const char *const texts[TABLE_COUNT] = { TABLES(TABLE_TEXT) };
+#undef TABLE_TEXT
+    bool complete = true;
+    printf("Reached for each depth from 1 to 32, or what else is numbered so; the least of the 32 counts:\n");
+    for (unsigned i = 0; i < TABLE_COUNT; i++) {
+        unsigned least = 1;
+        for (unsigned n = 2; n <= SLOTS; n++)
+            if (each[i][n] < each[i][least]) least = n;
+        printf("  %-68s %10" PRIu64 "%s at %u\n", texts[i], each[i][least], each[i][least] ? "" : " NEVER", least);
+        complete &= each[i][least] != 0;
+    }
+    return complete;
+}
+
 bool reached_summary(void)
 {
-    const bool answered = answers_summary(), ordered = orders_summary(), reached = branches_summary();
-    return answered && ordered && reached;
+    const bool answered = answers_summary(), ordered = orders_summary(), reached = branches_summary(), every = tables_summary();
+    return answered && ordered && reached && every;
 }

@@ -12,7 +12,9 @@
 /* Places for refusal numbers in tables, 0 for none among them; a set of numbers is 32 bits. */
 enum { REFUSAL_NUMBERS = 32 };
 
-typedef enum { RESET, WRITE, READ, INTERRUPT, REARM, SAMPLE, RUN, RUN_FILE, TRACE_WRITE, TRACE_ITEM, CALLS } call_kind;
+typedef enum {
+    RESET, RESET_DEPTH, WRITE, READ, INTERRUPT, REARM, SAMPLE, RUN, RUN_FILE, RUN_FILE_DEPTH, TRACE_WRITE, TRACE_ITEM, CALLS
+} call_kind;
 
 extern const char *const call_name[CALLS];
 
@@ -20,6 +22,7 @@ extern const char *const call_name[CALLS];
 typedef struct call {
     call_kind kind;
     uint64_t number;               /* counted from 1 in each seed */
+    uint32_t depth;                /* of the device that is made; four where none is named */
     uint32_t offset, value;        /* of a register; the value is a sample too */
     size_t start, place;
     const uint32_t *samples;

@@ -34,6 +34,10 @@ no-device image = record { number = 1; image = image }
 unfoldable pub reset : Called
 reset = record { number = 0; image = image-of fresh }
 
+-- W9: a device made with a depth.
+unfoldable pub reset-depth : List ℕ → ℕ → Called
+reset-depth image depth = changed image (register-rules.made depth)
+
 unfoldable pub write : List ℕ → ℕ → ℕ → Called
 write image offset value = cond (encodes image) (changed image (register-rules.write (device-of image) offset value)) (no-device image)
 
@@ -81,6 +85,9 @@ run image memory start samples =
 -- A file needs no device: its image is the one that the file leaves, or, refused, as it was.
 unfoldable pub run-file : List ℕ → List ℕ → List ℕ → ℕ → RunCalled
 run-file image file memory start = ran image (file-rules.run-file file memory start)
+
+unfoldable pub run-file-depth : List ℕ → ℕ → List ℕ → List ℕ → ℕ → RunCalled
+run-file-depth image depth file memory start = ran image (file-rules.run-file-of depth file memory start)
 
 -- A sample's two answers as four words: landed, byte, packed, value.
 abbrev pub landed-word : Option ℕ → ℕ

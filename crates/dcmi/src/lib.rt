@@ -1,4 +1,4 @@
-// The C interface: what include/dcmi.h declares, on numbers and bytes. A device is an image of 26 words that the caller owns. Each function answers 0
+// The C interface: what include/dcmi.h declares, on numbers and bytes. A device is an image of 55 words that the caller owns. Each function answers 0
 // or a refusal number for every input, has no `requires`, and states its whole result, the image, the memory and the outputs that it leaves, as one
 // equation with a definition of specs/; refused, all of them are as they were.
 ghost use mathlib.Core.Path.{_≡_};
@@ -23,7 +23,7 @@ use trace::Item;
 use trace::Read;
 
 // The image after a call that changes the device.
-fn store(image: &mut [u32; 26], after: Changed) -> u32
+fn store(image: &mut [u32; 55], after: Changed) -> u32
     ensures { λ r. ⌜ call-rules.called r (now (image .exit)) ≡ call-rules.changed (now (image .entry)) (device-answers.changed after) ⌝ }
 {
     let outcome = after.outcome;
@@ -41,7 +41,7 @@ fn store(image: &mut [u32; 26], after: Changed) -> u32
 
 // A fresh device.
 #[no_mangle]
-pub extern "C" fn dcmi_reset(image: &mut [u32; 26]) -> u32
+pub extern "C" fn dcmi_reset(image: &mut [u32; 55]) -> u32
     ensures { λ r. ⌜ call-rules.called r (now (image .exit)) ≡ call-rules.reset ⌝ }
 {
     let d = device::fresh();
@@ -49,9 +49,18 @@ pub extern "C" fn dcmi_reset(image: &mut [u32; 26]) -> u32
     0
 }
 
+// A device made with a depth.
+#[no_mangle]
+pub extern "C" fn dcmi_reset_depth(image: &mut [u32; 55], depth: u32) -> u32
+    ensures { λ r. ⌜ call-rules.called r (now (image .exit)) ≡ call-rules.reset-depth (now (image .entry)) depth ⌝ }
+{
+    let after = device::made(depth);
+    store(image, after)
+}
+
 // A register write.
 #[no_mangle]
-pub extern "C" fn dcmi_write(image: &mut [u32; 26], offset: u32, value: u32) -> u32
+pub extern "C" fn dcmi_write(image: &mut [u32; 55], offset: u32, value: u32) -> u32
     ensures { λ r. ⌜ call-rules.called r (now (image .exit)) ≡ call-rules.write (now (image .entry)) offset value ⌝ }
 {
     let words = *image;
@@ -64,7 +73,7 @@ pub extern "C" fn dcmi_write(image: &mut [u32; 26], offset: u32, value: u32) -> 
 
 // The next word goes to place 0.
 #[no_mangle]
-pub extern "C" fn dcmi_rearm(image: &mut [u32; 26]) -> u32
+pub extern "C" fn dcmi_rearm(image: &mut [u32; 55]) -> u32
     ensures { λ r. ⌜ call-rules.called r (now (image .exit)) ≡ call-rules.rearm (now (image .entry)) ⌝ }
 {
     let words = *image;
@@ -91,7 +100,7 @@ fn put_reading(reading: Reading, value: &mut u32) -> u32
 
 // A register read.
 #[no_mangle]
-pub extern "C" fn dcmi_read(image: &[u32; 26], offset: u32, value: &mut u32) -> u32
+pub extern "C" fn dcmi_read(image: &[u32; 55], offset: u32, value: &mut u32) -> u32
     ensures { λ r. ⌜ call-rules.gave r (now (value .exit)) ≡ call-rules.read (now (image .entry)) offset (now (value .entry)) ⌝ }
 {
     let words = *image;
@@ -122,7 +131,7 @@ fn put_line(line: InterruptLine, level: &mut u32) -> u32
 
 // The interrupt line: 1 up, 0 down.
 #[no_mangle]
-pub extern "C" fn dcmi_interrupt(image: &[u32; 26], level: &mut u32) -> u32
+pub extern "C" fn dcmi_interrupt(image: &[u32; 55], level: &mut u32) -> u32
     ensures { λ r. ⌜ call-rules.gave r (now (level .exit)) ≡ call-rules.interrupt (now (image .entry)) (now (level .entry)) ⌝ }
 {
     let words = *image;
@@ -136,7 +145,7 @@ pub extern "C" fn dcmi_interrupt(image: &[u32; 26], level: &mut u32) -> u32
 // A run of samples over the memory from the start byte on.
 #[no_mangle]
 pub extern "C" fn dcmi_run_slices(
-    image: &mut [u32; 26],
+    image: &mut [u32; 55],
     memory: &mut [u8],
     start: usize,
     samples: &[u32],
@@ -154,7 +163,7 @@ pub extern "C" fn dcmi_run_slices(
 // A trace file on a fresh device, over the memory from the start byte on.
 #[no_mangle]
 pub extern "C" fn dcmi_run_file_slices(
-    image: &mut [u32; 26],
+    image: &mut [u32; 55],
     file: &[u8],
     memory: &mut [u8],
     start: usize,
@@ -162,6 +171,21 @@ pub extern "C" fn dcmi_run_file_slices(
     ensures { λ r. ⌜ call-rules.run-called r (now (image .exit)) (now (memory .exit)) ≡ call-rules.run-file (now (image .entry)) (now (file .entry)) (now (memory .entry)) start ⌝ }
 {
     let after = files::run_file(file, memory, start);
+    store(image, after)
+}
+
+// A trace file on a device made with a depth.
+#[no_mangle]
+pub extern "C" fn dcmi_run_file_depth_slices(
+    image: &mut [u32; 55],
+    depth: u32,
+    file: &[u8],
+    memory: &mut [u8],
+    start: usize,
+) -> u32
+    ensures { λ r. ⌜ call-rules.run-called r (now (image .exit)) (now (memory .exit)) ≡ call-rules.run-file-depth (now (image .entry)) depth (now (file .entry)) (now (memory .entry)) start ⌝ }
+{
+    let after = files::run_file_of(depth, file, memory, start);
     store(image, after)
 }
 
@@ -203,7 +227,7 @@ fn value_word(packing: Packing) -> u64
     }
 }
 
-fn put_sampled(image: &mut [u32; 26], answer: &mut [u64; 4], after: Sampled) -> u32
+fn put_sampled(image: &mut [u32; 55], answer: &mut [u64; 4], after: Sampled) -> u32
     ensures { λ r. ⌜ call-rules.sample-called r (now (image .exit)) (now (answer .exit)) ≡ call-rules.sample-stored (now (image .entry)) (now (answer .entry)) (device-answers.reply (after .reply)) (after .device) ⌝ }
 {
     let reply = after.reply;
@@ -227,7 +251,7 @@ fn put_sampled(image: &mut [u32; 26], answer: &mut [u64; 4], after: Sampled) -> 
 // One sample over the memory from the start byte on, with its two answers.
 #[no_mangle]
 pub extern "C" fn dcmi_sample_slices(
-    image: &mut [u32; 26],
+    image: &mut [u32; 55],
     memory: &mut [u8],
     start: usize,
     sample: u32,

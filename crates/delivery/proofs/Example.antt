@@ -1,21 +1,22 @@
--- The premises can be met, at 12 bits and at 8: a scenario with runs, single samples and refused calls. Five words are noted, and the four samples that grant
--- stand in every 16 (32) of them.
+-- The premises can be met. At depth 4, at 12 bits and at 8: a scenario with runs, single samples and refused calls; five words are noted, and the four samples
+-- that grant stand in every 16 (32) of them. At depth 1 each word waits as long as the deadline lets it. At depth 32 up to 25 words are held (W9).
 use mathlib.Core.Bool.{true, false}
 use mathlib.Core.List.{List, [], _∷_, _++_, map}
-use mathlib.Core.Path.{_≡_, refl, ap}
+use mathlib.Core.Path.{_≡_, refl, ap, _∙_}
 use Prim.Native.Nat.{ℕ, _+_, _*_}
 use native.Mathlib.Omega.{arith}
 use lib.ListN.{replicate}
-use Rattle.output.specs.Output.{depth}
+use Rattle.output.specs.Output.{usual-depth}
 use Rattle.delivery.specs.Calls.{SetUpCall, a-write, a-run, a-sample}
 use Rattle.delivery.specs.Delivery.{Scenario, set-up, Premises, Promised, All, all-moments}
 use Rattle.delivery.proofs.Theorem.{delivery}
-use Rattle.delivery.proofs.Outcome.{final, Outcome, outcome, premises, twelve-bits, eight-bits, pixels, every}
+use Rattle.delivery.proofs.Outcome.{final, Outcome, outcome, premises, twelve-bits, eight-bits, pixels, every, periods, one-run}
 
 -- A blank edge and n samples of pixels in a run, 6 + m in another, four of which grant, and four alone. A bit above 17 refuses a run and a single sample.
 abbrev pub example : SetUpCall → ℕ → ℕ → Scenario
 example cr n m =
     record {
+      depth = usual-depth;
       set-up-calls = cr ∷ [];
       calls =
           a-run (0x0C000 ∷ 0x1C000 ∷ pixels 0 (replicate n false)) ∷
@@ -44,32 +45,82 @@ three-landed s n held =
       overrun = false;
     }
 
-pub record Delivers (s n : ℕ) (held landed : List ℕ) (x : Scenario) : Type 0 where
-  pub comes-to : outcome (depth * s) depth x ≡ three-landed s n held
-  -- The bytes of the landed words, and those around them.
-  pub in-memory : final (x .start) (set-up x) (x .calls) .memory ≡ replicate 3 0xEE ++ landed ++ replicate 9 0xEE
+-- A scenario that comes to an outcome, with this memory at the end.
+pub record Delivers (o : Outcome) (memory : List ℕ) (x : Scenario) : Type 0 where
+  pub comes-to : outcome (x .depth * o .distance) (x .depth) x ≡ o
+  pub in-memory : final (x .start) (set-up x) (x .calls) .memory ≡ memory
   -- So the theorem speaks of the scenario, at each of its moments.
   pub met : Premises x
   pub promised : All (Promised x) (all-moments x)
 
-delivers : {s n : ℕ} {held landed : List ℕ} (x : Scenario) → outcome (depth * s) depth x ≡ three-landed s n held
-    → final (x .start) (set-up x) (x .calls) .memory ≡ replicate 3 0xEE ++ landed ++ replicate 9 0xEE → Delivers s n held landed x
-delivers {s} x e m =
-    let met = premises s x (ap (λ o. o .met) e) (ap (λ o. o .distance) e) in
+delivers : {o : Outcome} {memory : List ℕ} (x : Scenario) → o .met ≡ true → outcome (x .depth * o .distance) (x .depth) x ≡ o
+    → final (x .start) (set-up x) (x .calls) .memory ≡ memory → Delivers o memory x
+delivers {o} x t e m =
+    let met = premises (o .distance) x (ap (λ (r : Outcome). r .met) e ∙ t) (ap (λ (r : Outcome). r .distance) e) in
     record { comes-to = e; in-memory = m; met = met; promised = delivery x met }
 
-pub at-12-bits : Delivers 4 22 (0x80007 ∷ 0xA0009 ∷ []) (1 ∷ 0 ∷ 2 ∷ 0 ∷ 3 ∷ 0 ∷ 4 ∷ 0 ∷ 5 ∷ 0 ∷ 6 ∷ 0 ∷ []) (example twelve-bits 8 2)
-unfolding outcome
-at-12-bits = delivers (example twelve-bits 8 2) refl refl
+-- The bytes of the landed words, and those around them.
+abbrev around : List ℕ → List ℕ
+around landed = replicate 3 0xEE ++ landed ++ replicate 9 0xEE
 
-pub at-8-bits : Delivers 8 42 (0x100F0E0D ∷ 0x14131211 ∷ []) (1 ∷ 2 ∷ 3 ∷ 4 ∷ 5 ∷ 6 ∷ 7 ∷ 8 ∷ 9 ∷ 10 ∷ 11 ∷ 12 ∷ []) (example eight-bits 20 10)
+pub at-12-bits :
+    Delivers (three-landed 4 22 (0x80007 ∷ 0xA0009 ∷ [])) (around (1 ∷ 0 ∷ 2 ∷ 0 ∷ 3 ∷ 0 ∷ 4 ∷ 0 ∷ 5 ∷ 0 ∷ 6 ∷ 0 ∷ [])) (example twelve-bits 8 2)
 unfolding outcome
-at-8-bits = delivers (example eight-bits 20 10) refl refl
+at-12-bits = delivers (example twelve-bits 8 2) refl refl refl
+
+pub at-8-bits :
+    Delivers (three-landed 8 42 (0x100F0E0D ∷ 0x14131211 ∷ [])) (around (1 ∷ 2 ∷ 3 ∷ 4 ∷ 5 ∷ 6 ∷ 7 ∷ 8 ∷ 9 ∷ 10 ∷ 11 ∷ 12 ∷ [])) (example eight-bits 20 10)
+unfolding outcome
+at-8-bits = delivers (example eight-bits 20 10) refl refl refl
+
+-- The outcome of one run of n samples: k words are noted, s samples apart, and those that have not landed are held.
+abbrev rest-held : ℕ → ℕ → ℕ → ℕ → List ℕ → Outcome
+rest-held s n k landed held =
+    record {
+      met = true;
+      distance = s;
+      moments = n + 3;
+      samples = n;
+      noted = every s (s + 2) k;
+      completed = k;
+      landed = landed;
+      discarded = 0;
+      held = held;
+      overrun = false;
+    }
+
+-- Depth 1: from the first word's sample on, a grant at every s-th. It lands the word before, whose s samples are over: one sample less, and it is still held.
+pub depth-1 :
+    Delivers (rest-held 4 17 3 2 (0x60005 ∷ [])) (1 ∷ 0 ∷ 2 ∷ 0 ∷ 3 ∷ 0 ∷ 4 ∷ 0 ∷ replicate 7 0xEE)
+    (one-run 1 twelve-bits (periods 1 1 2 ++ periods 3 1 3))
+unfolding outcome
+depth-1 = delivers (one-run 1 twelve-bits (periods 1 1 2 ++ periods 3 1 3)) refl refl refl
+
+pub depth-1-8 :
+    Delivers (rest-held 8 33 3 2 (0x0C0B0A09 ∷ [])) (1 ∷ 2 ∷ 3 ∷ 4 ∷ 5 ∷ 6 ∷ 7 ∷ 8 ∷ replicate 23 0xEE)
+    (one-run 1 eight-bits (periods 1 1 6 ++ periods 3 1 7))
+unfolding outcome
+depth-1-8 = delivers (one-run 1 eight-bits (periods 1 1 6 ++ periods 3 1 7)) refl refl refl
+
+-- Depth 32: the 32 samples that grant stand in every 128. Of 32 words 25 are held at the end.
+abbrev grants-first : Scenario
+grants-first = one-run 32 twelve-bits (periods 1 32 96)
+
+abbrev last-25 : List ℕ
+last-25 = 0x10000F ∷ 0x120011 ∷ 0x140013 ∷ 0x160015 ∷ 0x180017 ∷ 0x1A0019 ∷ 0x1C001B ∷ 0x1E001D ∷ 0x20001F ∷ 0x220021 ∷ 0x240023 ∷ 0x260025 ∷ 0x280027 ∷ 0x2A0029 ∷ 0x2C002B ∷ 0x2E002D ∷ 0x30002F ∷ 0x320031 ∷ 0x340033 ∷ 0x360035 ∷ 0x380037 ∷ 0x3A0039 ∷ 0x3C003B ∷ 0x3E003D ∷ 0x40003F ∷ []
+
+abbrev first-7 : List ℕ
+first-7 = 1 ∷ 0 ∷ 2 ∷ 0 ∷ 3 ∷ 0 ∷ 4 ∷ 0 ∷ 5 ∷ 0 ∷ 6 ∷ 0 ∷ 7 ∷ 0 ∷ 8 ∷ 0 ∷ 9 ∷ 0 ∷ 10 ∷ 0 ∷ 11 ∷ 0 ∷ 12 ∷ 0 ∷ 13 ∷ 0 ∷ 14 ∷ 0 ∷ []
+
+pub depth-32 : Delivers (rest-held 4 130 32 7 last-25) (first-7 ++ replicate 100 0xEE) grants-first
+unfolding outcome
+depth-32 = delivers grants-first refl refl refl
 
 -- Without runs and samples there are moments too: CR at reset, and after each of three writes. The second, of CWSTRT with ENABLE 1, is refused.
 abbrev pub set-up-alone : Scenario
 set-up-alone =
     record {
+      depth = usual-depth;
       set-up-calls = twelve-bits ∷ a-write 0x20 1 (omega arith) ∷ a-write 0 0x08E2 (omega arith) ∷ [];
       calls = [];
       start = 0;

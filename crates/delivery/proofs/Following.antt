@@ -5,7 +5,7 @@ use mathlib.Core.Option.{Option, none, some}
 use mathlib.Core.Path.{_≡_, refl, ap, _∙_}
 use Prim.Native.Nat.{ℕ, _<_}
 use Rattle.output.specs.declared.Fate.the-variants.{Held}
-use Rattle.output.specs.Output.{depth, OutputState, Offered, offer}
+use Rattle.output.specs.Output.{OutputState, Offered, offer}
 use Rattle.landing.specs.Landing.{Out, first-rule, take-in, put, puts, Fits}
 use Rattle.landing.proofs.Beside.{offer-held}
 use Rattle.rules.specs.declared.Capture.{Capture}
@@ -20,7 +20,7 @@ abbrev pub answered : Option ℕ → Packed
 answered none = nothing
 answered (some v) = completed v
 
-complete-fits : (o : Option ℕ) (s : Capture) (x : OutputState) → ((v : ℕ) → o ≡ some v → x .output .held < depth)
+complete-fits : (o : Option ℕ) (s : Capture) (x : OutputState) → ((v : ℕ) → o ≡ some v → x .output .held < x .output .depth)
     → complete o s x ≡ record { device = device s (take-in o x); packed = answered o }
 unfolding complete full-word after-word take-in
 complete-fits none s x space = refl
@@ -28,7 +28,7 @@ complete-fits (some v) s x space = let h : offer v x .fate ≡ Held = ap (λ (r 
 
 -- One sample, with ENABLE on.
 step-fits : {on : Bool} (s : Capture) (o : Out) (w : ℕ) → enabled s ≡ on
-    → ((v : ℕ) → capture-sample s w .word ≡ some v → first-rule on o (input s w) .state .output .held < depth)
+    → ((v : ℕ) → capture-sample s w .word ≡ some v → first-rule on o (input s w) .state .output .held < first-rule on o (input s w) .state .output .depth)
     → step (device s (o .state)) (o .buffer) w
     ≡ record {
       device = device (capture-sample s w .state) (put on o (input s w) .state);

@@ -1,20 +1,21 @@
 -- What a closed scenario comes to, by computation over the rules (`outcome`), and the premises from their test; unfolding `outcome` unfolds every rule.
 -- At the end what closed scenarios are made of.
-use mathlib.Core.Bool.{Bool, true, cond, _&&_, _||_}
-use mathlib.Core.List.{List, [], _∷_, map}
+use mathlib.Core.Bool.{Bool, true, false, cond, not, _&&_, _||_}
+use mathlib.Core.List.{List, [], _∷_, _++_, map}
 use mathlib.Core.Path.{_≡_}
 use Prim.Native.Nat.{ℕ, zero, suc, _+_, _-_, _*_, _/_, _%_, _≤_}
 use native.Mathlib.Omega.{arith}
 use lib.Dec.{ltb, leb}
-use lib.ListN.{length, take, drop, length-drop}
-use borrow.Author.Tests.{leb-true, le-ltb}
+use lib.ListN.{length, take, drop, replicate, length-drop}
+use borrow.Author.Tests.{leb-true, le-ltb, not-true}
 use Rattle.bits.specs.Bits.{bit}
-use Rattle.output.specs.Output.{depth, contents}
+use Rattle.output.specs.Output.{contents}
+use Rattle.output.specs.WellFormed.{bad-depth}
 use Rattle.rules.specs.State.{output-of}
 use Rattle.rules.specs.Run.{in-memory, sample}
 use Rattle.rules.proofs.EveryRule.{every-rule}
 use Rattle.bits.proofs.Booleans.{and-true}
-use Rattle.delivery.specs.Calls.{SetUpCall, a-write, after-set-up, after-set-ups, devices, Call, System, accepted, after-call, samples, inside, moments}
+use Rattle.delivery.specs.Calls.{SetUpCall, a-write, after-set-up, after-set-ups, devices, Call, a-run, System, accepted, after-call, samples, inside, moments}
 use Rattle.delivery.specs.Noted.{write-found, noted-write, noted-set-up, noted-set-ups, note, noted, spacing}
 use Rattle.delivery.specs.Delivery.{grants, Scenario, set-up, trace, distance, noted-by, Premises, all-moments}
 
@@ -29,8 +30,9 @@ each-tail f [] e (suc k) = e
 each-tail f (x ∷ xs) e zero = and-true (f (x ∷ xs)) (tails f xs) e .0
 each-tail f (x ∷ xs) e (suc k) = each-tail f xs (and-true (f (x ∷ xs)) (tails f xs) e .1) k
 
--- The premises with windows of w samples and g grants in each; their two tests.
+-- The premises with windows of w samples and g grants in each; two of their tests.
 pub record Windows (w g : ℕ) (x : Scenario) : Type 0 where
+  pub made : bad-depth (x .depth) ≡ false
   pub room : 4 * length (noted-by x (length (trace x))) ≤ length (x .memory) - x .start
   pub granted : (k : ℕ) → k + w ≤ length (trace x) → g ≤ grants (take w (drop k (trace x)))
 
@@ -64,7 +66,7 @@ unfolding final grants spacing after-set-up after-set-ups devices accepted after
 outcome w g x =
     let d = final (x .start) (set-up x) (x .calls) .device in
     record {
-      met = has-room x && tails (has-grants w g) (trace x);
+      met = not (bad-depth (x .depth)) && (has-room x && tails (has-grants w g) (trace x));
       distance = distance x;
       moments = length (all-moments x);
       samples = length (trace x);
@@ -79,16 +81,21 @@ outcome w g x =
 pub windows : (w g : ℕ) (x : Scenario) → outcome w g x .met ≡ true → Windows w g x
 unfolding outcome
 windows w g x e =
-    let (fits, dense) = and-true (has-room x) (tails (has-grants w g) (trace x)) e in
-    record { room = leb-true _ _ fits; granted = λ k h. window k h (each-tail (has-grants w g) (trace x) dense k) }
+    let (sound, rest) = and-true (not (bad-depth (x .depth))) (has-room x && tails (has-grants w g) (trace x)) e in
+    let (fits, dense) = and-true (has-room x) (tails (has-grants w g) (trace x)) rest in
+    record {
+      made = not-true _ sound;
+      room = leb-true _ _ fits;
+      granted = λ k h. window k h (each-tail (has-grants w g) (trace x) dense k);
+    }
   where
     window : (k : ℕ) → k + w ≤ length (trace x) → has-grants w g (drop k (trace x)) ≡ true → g ≤ grants (take w (drop k (trace x)))
     window k h t = leb-true g _ (rw (le-ltb (length (drop k (trace x))) w (rw length-drop (omega arith))) at t)
 
 -- The premises themselves, for s samples from word to word.
-pub premises : (s : ℕ) (x : Scenario) → outcome (depth * s) depth x .met ≡ true → outcome (depth * s) depth x .distance ≡ s → Premises x
+pub premises : (s : ℕ) (x : Scenario) → outcome (x .depth * s) (x .depth) x .met ≡ true → outcome (x .depth * s) (x .depth) x .distance ≡ s → Premises x
 unfolding outcome
-premises s x e is = let h = windows (depth * s) depth x e in record { room = h .room; granted = rw is (h .granted) }
+premises s x e is = let h = windows (x .depth * s) (x .depth) x e in record { made = h .made; room = h .room; granted = rw is (h .granted) }
 
 -- Writes of CR: 12 bits and 8 bits, snapshot, polarities 1, enabled and capturing.
 abbrev pub twelve-bits : SetUpCall
@@ -106,3 +113,19 @@ pixels i (g ∷ gs) = (i / 2 + 1 + i % 2 * 0x10000 + cond g 0x20000 0) ∷ pixel
 abbrev pub every : ℕ → ℕ → ℕ → List ℕ
 every s n zero = []
 every s n (suc k) = n ∷ every s (n + s) k
+
+-- k periods of m samples that grant and n that do not.
+abbrev pub periods : ℕ → ℕ → ℕ → List Bool
+periods zero m n = []
+periods (suc k) m n = replicate m true ++ replicate n false ++ periods k m n
+
+-- One run on a device of some depth: a blank edge and then pixels with these grants.
+abbrev pub one-run : ℕ → SetUpCall → List Bool → Scenario
+one-run depth cr gs =
+    record {
+      depth = depth;
+      set-up-calls = cr ∷ [];
+      calls = a-run (0x0C000 ∷ 0x1C000 ∷ pixels 0 gs) ∷ [];
+      start = 0;
+      memory = replicate (length gs) 0xEE;
+    }

@@ -1,25 +1,29 @@
--- Demand 3 (`delivery`). The idea: the calls are one list of samples, over which the device is the capture rules beside the output rules, and these land every word.
+-- Demand 3 (`delivery`), over every depth and spacing (W9); `usual`: at the depth where none is named. The idea: the calls are one list of samples, over which the device is the capture rules beside the output rules, and these land every word.
 use mathlib.Core.Bool.{Bool, true, false, true≢false}
 use mathlib.Core.List.{List, [], _∷_, _++_, map}
 use mathlib.Core.Option.{Option, none, some}
-use mathlib.Core.Path.{_≡_, refl, sym, ap, _∙_}
-use Prim.Native.Nat.{ℕ, _+_, _*_, _≤_, _<_}
+use mathlib.Core.Path.{_≡_, refl, sym, ap, subst, _∙_}
+use Prim.Native.Nat.{ℕ, _+_, _-_, _*_, _≤_, _<_}
 use native.Mathlib.Omega.{arith}
+use lib.Dec.{eqb, ltb}
 use lib.ListN.{length, take, drop, length-append, length-drop, take-append-drop}
 use lib.Seq.{take-length, take-at}
+use borrow.Author.Tests.{eqb-false}
 use Rattle.bits.specs.Bits.{bit}
-use Rattle.output.specs.Output.{depth}
+use Rattle.bits.proofs.Booleans.{or-false}
+use Rattle.output.specs.Output.{slot-count, usual-depth}
+use Rattle.output.specs.WellFormed.{bad-depth}
 use Rattle.queue.specs.Queue as queue
 use Rattle.landing.specs.Landing.{Out, puts, Fits, Conditions, Landed}
 use Rattle.landing.proofs.Theorem.{empty, fits, landed}
 use Rattle.rules.specs.declared.Capture.{Capture}
 use Rattle.rules.specs.Capture.{enabled, remember-pins, capture-sample}
-use Rattle.rules.specs.State.{device, fresh, with-pins}
+use Rattle.rules.specs.State.{device, fresh-of, with-pins}
 use Rattle.rules.specs.Run.{Packed, Ran}
 use Rattle.laws.proofs.Moved.{sample-moved, sample-enable, word-enabled}
 use Rattle.delivery.specs.Calls.{devices, Moment, moments}
 use Rattle.delivery.specs.Noted.{Noted, noted, words, noted-at}
-use Rattle.delivery.specs.Delivery.{Scenario, set-up, trace, configured, distance, Premises, Promised, All, unsampled, Delivery}
+use Rattle.delivery.specs.Delivery.{grants, Scenario, set-up, trace, configured, distance, noted-by, Premises, Promised, All, unsampled, all-moments, Delivery}
 use Rattle.delivery.proofs.Inputs.{input, inputs, captures, inputs-append, inputs-take, inputs-length, window-grants, inputs-words, count-words}
 use Rattle.delivery.proofs.Spacing.{always-spaced, spacing-positive}
 use Rattle.delivery.proofs.Following.{steps-fit, last-answer}
@@ -47,18 +51,24 @@ none-disabled s (w ∷ ws) off = go (capture-sample s w .word) (word-enabled s w
     go none on e = e
     go (some v) on e = let z : _≡_ {A = Bool} true false = sym (on v refl) ∙ off in absurd (true≢false z)
 
+-- A device that was made has at least one place in its FIFO.
+deep : (depth : ℕ) → bad-depth depth ≡ false → 1 ≤ depth
+unfolding bad-depth
+deep depth sound = let n = eqb-false depth 0 (or-false (eqb depth 0) (ltb slot-count depth) sound .0) in omega arith
+
 -- The frame buffer first lent; output and frame buffer after samples xs.
 abbrev lent : Scenario → List ℕ
 lent x = drop (x .start) (x .memory)
 
 abbrev out : Scenario → List ℕ → Out
-out x xs = puts (enabled (configured x)) (empty (lent x)) (inputs (configured x) xs)
+out x xs = puts (enabled (configured x)) (empty (x .depth) (lent x)) (inputs (configured x) xs)
 
 module _ (x : Scenario) (p : Premises x) where
   -- The premises, as the output rules have them.
-  conditions : Conditions (enabled (configured x)) (distance x) (lent x) (inputs (configured x) (trace x))
+  conditions : Conditions (enabled (configured x)) (x .depth) (distance x) (lent x) (inputs (configured x) (trace x))
   conditions =
       record {
+        deep = deep (x .depth) (p .made);
         positive = spacing-positive _;
         granted = λ k h. rw window-grants (p .granted k (rw inputs-length at h));
         spaced = always-spaced (configured x) (trace x);
@@ -68,20 +78,20 @@ module _ (x : Scenario) (p : Premises x) where
 
   -- After the first samples, xs, with zs still to come.
   module _ (xs zs : List ℕ) (e : trace x ≡ xs ++ zs) where
-    split : Conditions (enabled (configured x)) (distance x) (lent x) (inputs (configured x) xs ++ inputs (captures (configured x) xs) zs)
+    split : Conditions (enabled (configured x)) (x .depth) (distance x) (lent x) (inputs (configured x) xs ++ inputs (captures (configured x) xs) zs)
     split = rw (← inputs-append, ← e) conditions
 
-    fit : Fits (enabled (configured x)) (empty (lent x)) (inputs (configured x) xs)
+    fit : Fits (enabled (configured x)) (empty (x .depth) (lent x)) (inputs (configured x) xs)
     fit = fits (inputs (configured x) xs) (inputs (captures (configured x) xs) zs) split
 
     follows : ran (x .start) (set-up x) xs ≡ record { device = device (captures (configured x) xs) (out x xs .state); buffer = out x xs .buffer }
-    follows = rw (set-up-ready (x .set-up-calls) .is) (steps-fit (configured x) (empty (lent x)) xs refl fit)
+    follows = rw (set-up-ready (x .depth) (p .made) (x .set-up-calls) .is) (steps-fit (configured x) (empty (x .depth) (lent x)) xs refl fit)
 
-    lands : Landed (distance x) (x .start) (x .memory) (inputs (configured x) xs) (out x xs)
+    lands : Landed (x .depth) (distance x) (x .start) (x .memory) (inputs (configured x) xs) (out x xs)
     lands = landed (inputs (configured x) xs) (inputs (captures (configured x) xs) zs) split (x .start) (x .memory) refl
 
     in-time : (before : List Noted) (w : Noted) (after : List Noted) → noted 0 (configured x) xs ≡ before ++ w ∷ after
-        → w .sample + depth * distance x ≤ length xs → length before < out x xs .state .output .counts .landed
+        → w .sample + x .depth * distance x ≤ length xs → length before < out x xs .state .output .counts .landed
     in-time before w after is h =
         let came = numbered 0 (configured x) xs before w after is .1 (w .sample) (omega arith) in
         let gone = lands .in-time (w .sample) (rw inputs-length h) in
@@ -94,8 +104,8 @@ module _ (x : Scenario) (p : Premises x) where
       let ys = a .before in
       let w = a .last in
       let number : length (ys ++ w ∷ []) ≡ 0 + length ys + 1 = rw length-append (omega arith) in
-      let says = last-answer (configured x) (empty (lent x)) ys w refl (fit (ys ++ w ∷ []) zs (e ∙ rw (a .split))) in
-      rw (a .split, number, last-noted) (a .packed ∙ rw (set-up-ready (x .set-up-calls) .is) says)
+      let says = last-answer (configured x) (empty (x .depth) (lent x)) ys w refl (fit (ys ++ w ∷ []) zs (e ∙ rw (a .split))) in
+      rw (a .split, number, last-noted) (a .packed ∙ rw (set-up-ready (x .depth) (p .made) (x .set-up-calls) .is) says)
 
   -- A moment after them.
   promised : (m : Moment) → Reached (x .start) (set-up x) (trace x) m → Promised x m
@@ -108,7 +118,7 @@ module _ (x : Scenario) (p : Premises x) where
       let bytes = rw (r .at .front, r .at .buffer) at (take-append-drop (x .start) (m .memory)) in
       let l = lands xs (r .rest) e in
       record {
-        no-overrun = rw here (captures-overrun (configured x) xs (rw (set-up-ready (x .set-up-calls) .no-flag)));
+        no-overrun = rw here (captures-overrun (configured x) xs (rw (set-up-ready (x .depth) (p .made) (x .set-up-calls) .no-flag)));
         none-discarded = rw here (l .none-discarded);
         completed = rw (at, here) (l .completed ∙ count-words _ xs);
         in-memory = rw (at, here, ← bytes, now, ← inputs-words 0 (configured x) xs) (l .in-memory);
@@ -126,6 +136,16 @@ all-map P Q f (x ∷ xs) p = (f x (p .0), all-map P Q f xs (p .1))
 pub delivery : (x : Scenario) → Delivery x
 delivery x p =
     let calls = moments (x .start) (set-up x) 0 (x .calls) in
-    all-append (Promised x) (map (unsampled x) (devices fresh (x .set-up-calls))) calls
-    (each-promised x _ _ (x .set-up-calls) fresh-ready)
+    all-append (Promised x) (map (unsampled x) (devices (fresh-of (x .depth)) (x .set-up-calls))) calls
+    (each-promised x _ _ (x .set-up-calls) (fresh-ready (x .depth) (p .made)))
     (all-map (Reached (x .start) (set-up x) (trace x)) (Promised x) (promised x p) calls (all-reached (x .start) (set-up x) (x .calls)))
+
+-- Every d·s accepted samples hold at least d grants.
+abbrev Dense : Scenario → ℕ → Type 0
+Dense x depth = (k : ℕ) → k + depth * distance x ≤ length (trace x) → depth ≤ grants (take (depth * distance x) (drop k (trace x)))
+
+-- Four is the depth where none is named (W9): room, and four grants in every 4·s samples, are all the premises.
+pub usual : (x : Scenario) → x .depth ≡ usual-depth → 4 * length (noted-by x (length (trace x))) ≤ length (x .memory) - x .start
+    → Dense x 4 → All (Promised x) (all-moments x)
+unfolding bad-depth
+usual x e room granted = delivery x (record { made = rw e; room = room; granted = subst (Dense x) (sym e) granted })

@@ -19,7 +19,7 @@ no-words : (start : ℕ) (memory : List ℕ) → memory ≡ with-words start [] 
 unfolding with-words all-bytes
 no-words start memory = rw (append-nil, add-zero) (sym (take-append-drop start memory))
 
-promised : (x : Scenario) (s : Capture) (d : Device) → Ready s d → Promised x (unsampled x d)
+promised : {depth : ℕ} (x : Scenario) (s : Capture) (d : Device) → Ready depth s d → Promised x (unsampled x d)
 unfolding noted fresh-output holding with-held contents laid
 promised x s d r =
     record {
@@ -33,7 +33,7 @@ promised x s d r =
       answers = λ p e. absurd (none-some e);
     }
 
-pub each-promised : (x : Scenario) (s : Capture) (d : Device) (cs : List SetUpCall) → Ready s d → All (Promised x) (map (unsampled x) (devices d cs))
+pub each-promised : {depth : ℕ} (x : Scenario) (s : Capture) (d : Device) (cs : List SetUpCall) → Ready depth s d → All (Promised x) (map (unsampled x) (devices d cs))
 unfolding devices
 each-promised x s d [] r = (promised x s d r, tt)
 each-promised x s d (c ∷ cs) r = (promised x s d r, each-promised x _ _ cs (one-ready s d c r))

@@ -1,4 +1,4 @@
--- Demand 3, as document 01's last section spells it out: its premises and its promises.
+-- Demand 3, as document 01's last section spells it out, over the depth d and the spacing s (W9): its premises and its promises.
 use mathlib.Core.Bool.{false, cond}
 use mathlib.Core.List.{List, [], _∷_, _++_, map}
 use mathlib.Core.Option.{none, some}
@@ -8,10 +8,11 @@ use lib.ListN.{length, take, drop}
 use Rattle.bits.specs.Bits.{bit}
 use Rattle.rules.specs.declared.Capture.{Capture}
 use Rattle.rules.specs.declared.Device.{Device}
-use Rattle.rules.specs.State.{output-of, fresh}
+use Rattle.rules.specs.State.{output-of, fresh-of}
 use Rattle.rules.specs.Run.{Packed}
 use Rattle.samples.specs.Samples.{bus-grant}
-use Rattle.output.specs.Output.{depth, contents}
+use Rattle.output.specs.Output.{contents}
+use Rattle.output.specs.WellFormed.{bad-depth}
 use Rattle.landing.specs.Memory.{with-words}
 use Rattle.delivery.specs.Calls.{SetUpCall, after-set-ups, devices, Call, System, samples, Moment, moments}
 use Rattle.delivery.specs.Noted.{Noted, noted-set-ups, noted, words, noted-at, spacing}
@@ -21,8 +22,10 @@ unfoldable pub grants : List ℕ → ℕ
 grants [] = 0
 grants (w ∷ ws) = cond (bus-grant w) 1 0 + grants ws
 
--- Everything that the claim is about: the set-up calls from reset, the runs and single samples, the one start byte and the memory first lent.
+-- Everything that the claim is about: the depth that the device is made with (W9), the set-up calls from reset, the runs and single samples, the one start byte
+-- and the memory first lent.
 pub record Scenario : Type 0 where
+  pub depth : ℕ
   pub set-up-calls : List SetUpCall
   pub calls : List Call
   pub start : ℕ
@@ -30,7 +33,7 @@ pub record Scenario : Type 0 where
 
 -- The bench after the set-up calls.
 abbrev pub set-up : Scenario → System
-set-up x = record { device = after-set-ups fresh (x .set-up-calls); memory = x .memory }
+set-up x = record { device = after-set-ups (fresh-of (x .depth)) (x .set-up-calls); memory = x .memory }
 
 -- The accepted samples of all calls.
 abbrev pub trace : Scenario → List ℕ
@@ -38,7 +41,7 @@ trace x = samples (x .start) (set-up x) (x .calls)
 
 -- The capture state after the set-up calls, by the register rules alone; the spacing that its EDM gives; and the words noted at the first n samples.
 abbrev pub configured : Scenario → Capture
-configured x = noted-set-ups (fresh .core .capture) (x .set-up-calls)
+configured x = noted-set-ups (fresh-of (x .depth) .core .capture) (x .set-up-calls)
 
 abbrev pub distance : Scenario → ℕ
 distance x = spacing (configured x .registers .cr)
@@ -48,10 +51,12 @@ noted-by x n = noted 0 (configured x) (take n (trace x))
 
 -- The premises.
 pub record Premises (x : Scenario) : Type 0 where
+  -- W9: the device was made: depth 1 to 32, refusal 18 otherwise.
+  pub made : bad-depth (x .depth) ≡ false
   -- The memory has room for every noted word.
   pub room : 4 * length (noted-by x (length (trace x))) ≤ length (x .memory) - x .start
-  -- Every 4·s consecutive accepted samples, counted across the calls, hold at least four bus grants.
-  pub granted : (k : ℕ) → k + depth * distance x ≤ length (trace x) → depth ≤ grants (take (depth * distance x) (drop k (trace x)))
+  -- W9: every d·s consecutive accepted samples, counted across the calls, hold at least d bus grants.
+  pub granted : (k : ℕ) → k + x .depth * distance x ≤ length (trace x) → x .depth ≤ grants (take (x .depth * distance x) (drop k (trace x)))
 
 -- What is promised at a moment after n samples.
 pub record Promised (x : Scenario) (m : Moment) : Type 0 where
@@ -65,10 +70,10 @@ pub record Promised (x : Scenario) (m : Moment) : Type 0 where
   -- The rest are held, in order.
   pub held : contents (output-of (m .device)) ≡ drop (m .device .core .output .counts .landed) (words (noted-by x (m .count)))
   pub split : m .device .core .output .counts .landed + m .device .core .output .held ≡ length (noted-by x (m .count))
-  -- A word noted at sample t has landed if the samples have reached t + 4·s.
+  -- W9: a word noted at sample t has landed if the samples have reached t + d·s.
   pub in-time :
       (before : List Noted) (w : Noted) (after : List Noted) → noted-by x (m .count) ≡ before ++ w ∷ after →
-      w .sample + depth * distance x ≤ m .count → length before < m .device .core .output .counts .landed
+      w .sample + x .depth * distance x ≤ m .count → length before < m .device .core .output .counts .landed
   -- An accepted single sample says the word noted at it, or none, and never a lost one.
   pub answers : (p : Packed) → m .packed ≡ some p → p ≡ noted-at (m .count) (noted-by x (m .count))
 
@@ -83,7 +88,7 @@ unsampled x d = record { device = d; memory = x .memory; count = 0; packed = non
 
 -- The moments: of the fresh device and after each set-up call, then those of the runs and single samples.
 abbrev pub all-moments : Scenario → List Moment
-all-moments x = map (unsampled x) (devices fresh (x .set-up-calls)) ++ moments (x .start) (set-up x) 0 (x .calls)
+all-moments x = map (unsampled x) (devices (fresh-of (x .depth)) (x .set-up-calls)) ++ moments (x .start) (set-up x) 0 (x .calls)
 
 -- Demand 3: at every moment, after every call and after every sample inside an accepted run.
 abbrev pub Delivery : Scenario → Type 0

@@ -1,8 +1,10 @@
-// The device: reset, the test for malformed devices, register reads and writes, the interrupt line, re-arming, runs and single samples. A
+// The device: reset, making one with a depth, the test for malformed devices, register reads and writes, the interrupt line, re-arming, runs and single samples. A
 // device goes in by value and comes back by value. Each public function answers for every device and number, states its whole result as one equation
 // with a definition of the crate `rules`, and has no `requires`; a refused call returns the device as it was.
 ghost use mathlib.Core.Path.{_≡_};
 ghost use Rattle.rules.specs.State as state;
+ghost use Rattle.rules.specs.RegisterCalls as register-rules;
+ghost use Rattle.device.specs.Answers as device-answers;
 
 mod control_writes;
 mod register_calls;
@@ -13,6 +15,7 @@ use output::Counts;
 use output::Landing;
 use output::Output;
 use output::SLOTS;
+use output::USUAL_DEPTH;
 use refusals::Outcome;
 use refusals::Refusal;
 pub use register_calls::interrupt;
@@ -63,9 +66,9 @@ pub struct Sampled {
     pub reply: Reply,
 }
 
-// A device after reset.
-pub fn fresh() -> Device
-    ensures { λ r. ⌜ r ≡ state.fresh ⌝ }
+// A device after reset, with a depth.
+fn fresh_of(depth: u32) -> Device
+    ensures { λ r. ⌜ r ≡ state.fresh-of depth ⌝ }
 {
     let capture = Capture {
         registers: Registers {
@@ -91,6 +94,7 @@ pub fn fresh() -> Device
     let output = Output {
         held: 0,
         place: 0,
+        depth,
         counts: Counts {
             samples: 0,
             completed: 0,
@@ -101,5 +105,28 @@ pub fn fresh() -> Device
     Device {
         core: Core { capture, output },
         slots: [0; SLOTS],
+    }
+}
+
+// A device after reset, with the usual depth of four.
+pub fn fresh() -> Device
+    ensures { λ r. ⌜ r ≡ state.fresh ⌝ }
+{
+    fresh_of(USUAL_DEPTH)
+}
+
+// A device made with a depth of 1 to 32. Refusal 18; refused, the device is one of the usual depth.
+pub fn made(depth: u32) -> Changed
+    ensures { λ r. ⌜ device-answers.changed r ≡ register-rules.made depth ⌝ }
+{
+    if well_formed::bad_depth(depth) {
+        return Changed {
+            device: fresh(),
+            outcome: Outcome::Refused(Refusal::Depth),
+        };
+    }
+    Changed {
+        device: fresh_of(depth),
+        outcome: Outcome::Accepted,
     }
 }

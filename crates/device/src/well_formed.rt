@@ -1,4 +1,4 @@
-// Malformed devices, clause by clause in the paper's order.
+// Malformed devices, clause by clause in the paper's order, and the clause of W9.
 ghost use mathlib.Core.Path.{_≡_};
 ghost use mathlib.Core.Bool.{not};
 ghost use Prim.Native.Nat.{_+_, _*_, _/_, _^_};
@@ -10,7 +10,6 @@ ghost use Rattle.output.specs.WellFormed as output-clauses;
 ghost use Rattle.rules.specs.State as state;
 ghost use Rattle.rules.specs.WellFormed as device-clauses;
 use capture::frame::rate_period;
-use output::DEPTH;
 use output::Output;
 use output::SLOTS;
 use packing::per_word;
@@ -22,25 +21,36 @@ use rules::Device;
 use rules::Frame;
 use rules::Registers;
 
-// Whether the slots from one on are all 0.
+// Whether the slots from one on are all 0. The loop does not end early, so that the compiler tests several at once.
 fn all_zero(slots: [u32; SLOTS], from: usize) -> bool
     ensures { λ r. ⌜ r ≡ output-clauses.all-zero (drop from slots) ⌝ }
 {
+    let mut zero = true;
     let mut i = from;
     while i < SLOTS {
         if slots[i] != 0 {
-            return false;
+            zero = false;
         }
         i += 1;
     }
-    true
+    zero
+}
+
+// A depth outside 1 to 32.
+pub fn bad_depth(depth: u32) -> bool
+    ensures { λ r. ⌜ r ≡ output-clauses.bad-depth depth ⌝ }
+{
+    if depth == 0 {
+        return true;
+    }
+    SLOTS < depth as usize
 }
 
 fn bad_fifo(d: Device) -> bool
     ensures { λ r. ⌜ r ≡ output-clauses.bad-fifo (state.output-of d) ⌝ }
 {
     let held = d.core.output.held;
-    if DEPTH < held {
+    if d.core.output.depth < held {
         return true;
     }
     let slots = d.slots;
@@ -244,5 +254,8 @@ pub fn malformed(d: Device) -> bool
     if bad_place(o) {
         return true;
     }
-    bad_counts(o)
+    if bad_counts(o) {
+        return true;
+    }
+    bad_depth(o.depth)
 }

@@ -122,9 +122,9 @@ image-back w all e =
     let (f, g) = and-true (leb (getD w 8 0) 1) (leb (getD w 9 0) 1) r″ in
     let (x, y, z) = frame-words-back (getD w 10 0) (getD w 11 0) (getD w 12 0) frame in
     let front : elements w 0 slot ≡ take slot w = elements-first slot w (omega arith) in
-    let size : length (drop behind w) ≡ 6 = length-drop behind w ∙ omega arith in
-    let back : elements (drop behind w) 0 6 ≡ drop behind w = elements-first 6 (drop behind w) (omega arith) ∙ take-all 6 _ (omega arith) in
+    let size : length (drop behind w) ≡ 7 = length-drop behind w ∙ omega arith in
+    let back : elements (drop behind w) 0 7 ≡ drop behind w = elements-first 7 (drop behind w) (omega arith) ∙ take-all 7 _ (omega arith) in
     rw (word-back _ a, word-back _ b, word-back _ c, word-back _ f, word-back _ g, x, y, z)
-    (ap (λ (l : List ℕ). l ++ take slot-count (drop slot w) ++ elements (drop behind w) 0 6) front ∙
+    (ap (λ (l : List ℕ). l ++ take slot-count (drop slot w) ++ elements (drop behind w) 0 7) front ∙
     ap (λ (l : List ℕ). take slot w ++ take slot-count (drop slot w) ++ l) back ∙
     rw (← take-add {A = ℕ} slot slot-count w) (take-append-drop behind w))

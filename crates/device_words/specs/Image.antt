@@ -1,4 +1,4 @@
--- The image of a device: 26 words of 32 bits, as include/dcmi.h names them.
+-- The image of a device: 55 words of 32 bits, as include/dcmi.h names them.
 use mathlib.Core.Bool.{Bool, cond, not, _&&_, _||_}
 use mathlib.Core.List.{List, [], _∷_, _++_}
 use Prim.Native.Nat.{ℕ, _+_}
@@ -30,7 +30,7 @@ pixels-word (Open taken s) = s .pixels
 
 -- How many words there are; the index of the first slot, and that of the first word behind the slots.
 abbrev pub image-words : ℕ
-image-words = 22 + slot-count
+image-words = 23 + slot-count
 
 abbrev pub slot : ℕ
 slot = 16
@@ -61,7 +61,7 @@ words-before s =
 
 abbrev pub words-behind : Output → List ℕ
 words-behind o =
-    o .held ∷ o .place ∷ o .counts .samples ∷ o .counts .completed ∷ o .counts .landed ∷ o .counts .discarded ∷ []
+    o .held ∷ o .place ∷ o .counts .samples ∷ o .counts .completed ∷ o .counts .landed ∷ o .counts .discarded ∷ o .depth ∷ []
 
 unfoldable pub image-of : Device → List ℕ
 image-of d = words-before (d .core .capture) ++ d .slots ++ words-behind (d .core .output)
@@ -96,6 +96,7 @@ output-of w =
     record {
       held = getD w 0 0;
       place = getD w 1 0;
+      depth = getD w 6 0;
       counts = record { samples = getD w 2 0; completed = getD w 3 0; landed = getD w 4 0; discarded = getD w 5 0 };
     }
 

@@ -1,4 +1,4 @@
-// A device as an image of 26 words of 32 bits, for programs in other languages, and back. The layout is that of include/dcmi.h; each device has one
+// A device as an image of 55 words of 32 bits, for programs in other languages, and back. The layout is that of include/dcmi.h; each device has one
 // image, and an image that encodes no device is told from those that do.
 ghost use mathlib.Core.Path.{_≡_};
 ghost use Prim.Native.Nat.{_+_, _≤_};
@@ -19,7 +19,7 @@ use rules::Scan;
 use rules::Syncs;
 
 // How many words there are; the index of the first slot, and that of the first word behind the slots.
-pub const WORDS: usize = 22 + SLOTS;
+pub const WORDS: usize = 23 + SLOTS;
 
 const SLOT: usize = 16;
 
@@ -129,6 +129,7 @@ pub fn image_of(d: Device) -> [u32; WORDS]
         counts.completed,
         counts.landed,
         counts.discarded,
+        output.depth,
     ];
     let slots = d.slots;
     let mut words = [0; WORDS];
@@ -241,6 +242,7 @@ fn output_of(w: [u32; WORDS]) -> Output
     Output {
         held: w[BEHIND],
         place: w[BEHIND + 1],
+        depth: w[BEHIND + 6],
         counts,
     }
 }

@@ -1,6 +1,6 @@
--- The register writes of a file, one after the other: what is left of them leads from the present device to the same end as all from a fresh one.
+-- The register writes of a file, one after the other: what is left of them leads from the present device to the same end as all from the first.
 -- The idea: one write takes the head of what is left; a write keeps a device well-formed and counts no sample. Assumes nothing.
-use mathlib.Core.Bool.{false}
+use mathlib.Core.Bool.{Bool, true, false, cond, false≢true}
 use mathlib.Core.List.{List, _∷_}
 use mathlib.Core.Path.{_≡_, refl, sym, _∙_}
 use Prim.Native.Nat.{ℕ, suc, _+_, _-_, _≤_, _<_, _^_}
@@ -11,10 +11,11 @@ use Rattle.registers.specs.Map.{register-at}
 use Rattle.registers.specs.declared.Found.{Found}
 use Rattle.registers.specs.declared.Found.the-variants.{At, Nothing}
 use Rattle.rules.specs.declared.Device.{Device}
-use Rattle.rules.specs.State.{fresh}
+use Rattle.rules.specs.State.{fresh-of, fresh}
 use Rattle.rules.specs.Answers.{Changed}
-use Rattle.output.specs.Output.{OutputState, fresh-output, with-held, holding, with-counts, count-discarded, discard}
-use Rattle.rules.specs.RegisterCalls.{disables, write-refusal, write-at, write}
+use Rattle.output.specs.Output.{usual-depth, OutputState, fresh-output, with-held, holding, with-counts, count-discarded, discard}
+use Rattle.output.specs.WellFormed.{bad-depth}
+use Rattle.rules.specs.RegisterCalls.{disables, write-refusal, write-at, write, made}
 use Rattle.rules.specs.WellFormed.{malformed}
 use Rattle.bits.proofs.Booleans.{either}
 use Rattle.laws.proofs.Keeps.{fresh-well-formed}
@@ -34,18 +35,31 @@ unfolding write
 write-samples d offset v =
     either (λ (e : Device). e .core .output .counts .samples ≡ d .core .output .counts .samples) (eqb (write-refusal d offset v) 0) (found-samples d (register-at offset) v) refl
 
-pub record Setting (file : List ℕ) (d : Device) (place : ℕ) : Type 0 where
-  pub leads : set-up d (reading.writes-from file place (reading.write-count file - place)) ≡ set-up fresh (reading.writes-of file)
+pub record Setting (d₀ : Device) (file : List ℕ) (d : Device) (place : ℕ) : Type 0 where
+  pub leads : set-up d (reading.writes-from file place (reading.write-count file - place)) ≡ set-up d₀ (reading.writes-of file)
   pub well : malformed d ≡ false
   pub samples : d .core .output .counts .samples ≡ 0
 
-pub starting : (file : List ℕ) → Setting file fresh 0
-unfolding fresh fresh-output holding with-held
-starting file =
+pub starting : (d₀ : Device) (file : List ℕ) → malformed d₀ ≡ false → d₀ .core .output .counts .samples ≡ 0 → Setting d₀ file d₀ 0
+starting d₀ file well none =
     let all : reading.write-count file - 0 ≡ reading.write-count file = omega arith in
-    record { leads = rw all; well = fresh-well-formed; samples = refl }
+    record { leads = rw all; well = well; samples = none }
 
-module _ {file : List ℕ} {d : Device} {place : ℕ} (s : Setting file d place) where
+-- A device made with a depth is such a start.
+pub made-ready : (depth : ℕ) → eqb (made depth .number) 0 ≡ true → (malformed (made depth .device) ≡ false) × (made depth .device .core .output .counts .samples ≡ 0)
+unfolding made fresh-of fresh-output holding with-held
+made-ready depth = go (bad-depth depth) refl
+  where
+    go : (bad : Bool) → bad-depth depth ≡ bad → eqb (cond bad 18 0) 0 ≡ true
+        → let d = cond (eqb (cond bad 18 0) 0) (fresh-of depth) fresh in (malformed d ≡ false) × (d .core .output .counts .samples ≡ 0)
+    go true e h = absurd (false≢true h)
+    go false e h = (fresh-well-formed depth e, refl)
+
+pub fresh-ready : (malformed fresh ≡ false) × (fresh .core .output .counts .samples ≡ 0)
+unfolding fresh-of fresh-output holding with-held bad-depth
+fresh-ready = (fresh-well-formed usual-depth refl, refl)
+
+module _ {d₀ : Device} {file : List ℕ} {d : Device} {place : ℕ} (s : Setting d₀ file d place) where
   -- A write is taken from the file: the first of what is left.
   next : place < reading.write-count file → (w : Write) → reading.item file place ≡ reading.a-write w
       → reading.writes-from file place (reading.write-count file - place) ≡ w ∷ reading.writes-from file (place + 1) (reading.write-count file - (place + 1))
@@ -62,7 +76,7 @@ module _ {file : List ℕ} {d : Device} {place : ℕ} (s : Setting file d place)
 
   -- Accepted, the rest of the writes is left.
   pub setting-on : place < reading.write-count file → (w : Write) (r : Changed) → reading.item file place ≡ reading.a-write w → w .value < 2 ^ 32 → r ≡ write d (w .offset) (w .value)
-      → r .number ≡ 0 → Setting file (r .device) (place + 1)
+      → r .number ≡ 0 → Setting d₀ file (r .device) (place + 1)
   unfolding set-up
   setting-on inside w r e small a taken =
       let (well, none) = setting-keeps w r small a in
@@ -70,12 +84,12 @@ module _ {file : List ℕ} {d : Device} {place : ℕ} (s : Setting file d place)
 
   -- Refused, this is the end.
   pub setting-refused : place < reading.write-count file → (w : Write) (r : Changed) → reading.item file place ≡ reading.a-write w → r ≡ write d (w .offset) (w .value) → eqb (r .number) 0 ≡ false
-      → r ≡ set-up fresh (reading.writes-of file)
+      → r ≡ set-up d₀ (reading.writes-of file)
   unfolding set-up
   setting-refused inside w r e a refused = rw (next inside w e, ← a, refused) at (s .leads)
 
   -- No write is left.
-  pub setting-end : reading.write-count file ≤ place → set-up fresh (reading.writes-of file) ≡ record { number = 0; device = d }
+  pub setting-end : reading.write-count file ≤ place → set-up d₀ (reading.writes-of file) ≡ record { number = 0; device = d }
   unfolding set-up reading.writes-from
   setting-end h =
       let n : reading.write-count file - place ≡ 0 = omega arith in

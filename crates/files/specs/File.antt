@@ -6,7 +6,7 @@ use lib.Dec.{eqb}
 use Rattle.rules.specs.declared.Device.{Device}
 use Rattle.rules.specs.State.{fresh}
 use Rattle.rules.specs.Answers.{Changed}
-use Rattle.rules.specs.RegisterCalls.{write}
+use Rattle.rules.specs.RegisterCalls.{write, made}
 use Rattle.rules.specs.Run.{RunResult, run}
 use Rattle.trace.specs.declared.Write.{Write}
 use Rattle.trace.specs.Reading.{form-refusal, writes-of, samples-of}
@@ -23,15 +23,23 @@ refused number memory = record { number = number; device = fresh; memory = memor
 abbrev pub or-fresh : RunResult → RunResult
 or-fresh r = cond (eqb (r .number) 0) r (refused (r .number) (r .memory))
 
--- The writes, then the samples as one run.
-unfoldable pub run-content : List Write → List ℕ → List ℕ → ℕ → RunResult
-run-content writes samples memory start =
-    let ready = set-up fresh writes in
+-- The writes, then the samples as one run, on a device d.
+unfoldable pub run-content : Device → List Write → List ℕ → List ℕ → ℕ → RunResult
+run-content d writes samples memory start =
+    let ready = set-up d writes in
     cond (eqb (ready .number) 0) (or-fresh (run (ready .device) memory start samples)) (refused (ready .number) memory)
 
 -- 13, 10, 11, 12, 13, the first refused write's number, 9, 7, 8; or device and memory after the file.
-unfoldable pub run-file : List ℕ → List ℕ → ℕ → RunResult
-run-file file memory start =
+unfoldable pub run-on : Device → List ℕ → List ℕ → ℕ → RunResult
+run-on d file memory start =
     cond (eqb (form-refusal file) 0)
-    (run-content (writes-of file) (samples-of file) memory start)
+    (run-content d (writes-of file) (samples-of file) memory start)
     (refused (form-refusal file) memory)
+
+-- On a fresh device; and on one made with a depth (W9), 18 being the first check.
+abbrev pub run-file : List ℕ → List ℕ → ℕ → RunResult
+run-file file memory start = run-on fresh file memory start
+
+unfoldable pub run-file-of : ℕ → List ℕ → List ℕ → ℕ → RunResult
+run-file-of depth file memory start =
+    cond (eqb (made depth .number) 0) (run-on (made depth .device) file memory start) (refused (made depth .number) memory)

@@ -45,13 +45,14 @@ fn refused(refusal: Refusal) -> Changed
     }
 }
 
-// The writes of a file on a fresh device, up to the first that is refused. Before the last of them no sample, end or refusal is read, as the proof says.
-fn set_up(file: &[u8]) -> Changed
-    ensures { λ r. ⌜ device-answers.changed r ≡ file-rules.set-up state.fresh (reading.writes-of (now (file .entry))) ⌝ }
+// The writes of a file on a device, up to the first that is refused. Before the last of them no sample, end or refusal is read, as the proof says.
+fn set_up(fresh: Device, file: &[u8]) -> Changed
+    requires { ⌜ (malformed fresh ≡ false) × (fresh .core .output .counts .samples ≡ 0) ⌝ }
+    ensures { λ r. ⌜ device-answers.changed r ≡ file-rules.set-up fresh (reading.writes-of (now (file .entry))) ⌝ }
     ensures { λ r. ⌜ (malformed (r .device) ≡ false) × (r .device .core .output .counts .samples ≡ 0) ⌝ }
 {
     let writes = write_count(file);
-    let mut d = device::fresh();
+    let mut d = fresh;
     let mut place = 0;
     while place < writes {
         let item = item_at(file, place);
@@ -131,15 +132,28 @@ fn run_samples(d: Device, file: &[u8], memory: &mut [u8], start: usize) -> Chang
 }
 
 // The writes of a file of the right form, then its samples.
-fn run_content(file: &[u8], memory: &mut [u8], start: usize) -> Changed
+fn run_content(fresh: Device, file: &[u8], memory: &mut [u8], start: usize) -> Changed
+    requires { ⌜ (malformed fresh ≡ false) × (fresh .core .output .counts .samples ≡ 0) ⌝ }
     requires { ⌜ reading.form-refusal (now file) ≡ 0 ⌝ }
-    ensures { λ r. ⌜ device-answers.ran r (now (memory .exit)) ≡ file-rules.run-content (reading.writes-of (now (file .entry))) (reading.samples-of (now (file .entry))) (now (memory .entry)) start ⌝ }
+    ensures { λ r. ⌜ device-answers.ran r (now (memory .exit)) ≡ file-rules.run-content fresh (reading.writes-of (now (file .entry))) (reading.samples-of (now (file .entry))) (now (memory .entry)) start ⌝ }
 {
-    let ready = set_up(file);
+    let ready = set_up(fresh, file);
     let d = ready.device;
     let outcome = ready.outcome;
     let Outcome::Refused(refusal) = outcome else {
         return run_samples(d, file, memory, start);
+    };
+    refused(refusal)
+}
+
+// The form checks, then the content.
+fn run_on(fresh: Device, file: &[u8], memory: &mut [u8], start: usize) -> Changed
+    requires { ⌜ (malformed fresh ≡ false) × (fresh .core .output .counts .samples ≡ 0) ⌝ }
+    ensures { λ r. ⌜ device-answers.ran r (now (memory .exit)) ≡ file-rules.run-on fresh (now (file .entry)) (now (memory .entry)) start ⌝ }
+{
+    let form = check_form(file);
+    let Outcome::Refused(refusal) = form else {
+        return run_content(fresh, file, memory, start);
     };
     refused(refusal)
 }
@@ -149,9 +163,18 @@ fn run_content(file: &[u8], memory: &mut [u8], start: usize) -> Changed
 pub fn run_file(file: &[u8], memory: &mut [u8], start: usize) -> Changed
     ensures { λ r. ⌜ device-answers.ran r (now (memory .exit)) ≡ file-rules.run-file (now (file .entry)) (now (memory .entry)) start ⌝ }
 {
-    let form = check_form(file);
-    let Outcome::Refused(refusal) = form else {
-        return run_content(file, memory, start);
+    run_on(device::fresh(), file, memory, start)
+}
+
+// The same on a device made with a depth: refusal 18 comes first.
+pub fn run_file_of(depth: u32, file: &[u8], memory: &mut [u8], start: usize) -> Changed
+    ensures { λ r. ⌜ device-answers.ran r (now (memory .exit)) ≡ file-rules.run-file-of depth (now (file .entry)) (now (memory .entry)) start ⌝ }
+{
+    let made = device::made(depth);
+    let d = made.device;
+    let outcome = made.outcome;
+    let Outcome::Refused(refusal) = outcome else {
+        return run_on(d, file, memory, start);
     };
     refused(refusal)
 }

@@ -7,7 +7,7 @@ use Prim.Native.Nat.{ℕ, _+_, _*_, _≤_, _<_}
 use native.Mathlib.Omega.{arith}
 use lib.ListN.{length, take, drop, length-append}
 use lib.Seq.{append-snoc, take-append-le, take-at, drop-at, drop-drop}
-use Rattle.output.specs.Output.{depth, contents, laid, with-held, holding, fresh-output}
+use Rattle.output.specs.Output.{contents, laid, with-held, holding, fresh-output}
 use Rattle.queue.specs.Queue.{Input, start, leave, from, after, words}
 use Rattle.queue.proofs.Flow.{words-append, after-snoc, queue-law}
 use Rattle.queue.proofs.Theorem.{finds-room, served}
@@ -15,18 +15,18 @@ use Rattle.landing.specs.Memory.{all-bytes, with-words}
 use Rattle.landing.specs.Landing.{Out, first-rule, put, puts, Fits, Conditions, Landed}
 use Rattle.landing.proofs.Beside.{Beside, rule-beside, put-beside}
 
--- At reset, with a frame buffer.
-abbrev pub empty : List ℕ → Out
-empty buffer = record { state = fresh-output; buffer = buffer }
+-- At reset, with a depth and a frame buffer.
+abbrev pub empty : ℕ → List ℕ → Out
+empty depth buffer = record { state = fresh-output depth; buffer = buffer }
 
-started : (b : List ℕ) → Beside b start fresh-output b
+started : (depth : ℕ) (b : List ℕ) → Beside depth b start (fresh-output depth) b
 unfolding start fresh-output holding with-held contents laid all-bytes
-started b = record { contents = refl; held = refl; place = refl; landed = refl; completed = refl; discarded = refl; buffer = refl; lost = refl }
+started depth b = record { depth = refl; contents = refl; held = refl; place = refl; landed = refl; completed = refl; discarded = refl; buffer = refl; lost = refl }
 
-module _ {on : Bool} {s : ℕ} {b₀ : List ℕ} where
+module _ {on : Bool} {depth s : ℕ} {b₀ : List ℕ} where
   -- One input, i, after inputs ps.
-  module _ (ps zs : List (Input ℕ)) (i : Input ℕ) (o : Out) (c : Conditions on s b₀ (ps ++ i ∷ zs))
-      (r : Beside b₀ (after depth ps) (o .state) (o .buffer)) where
+  module _ (ps zs : List (Input ℕ)) (i : Input ℕ) (o : Out) (c : Conditions on depth s b₀ (ps ++ i ∷ zs))
+      (r : Beside depth b₀ (after depth ps) (o .state) (o .buffer)) where
     few : length (after depth ps .left) + length (after depth ps .held) ≤ length (words (ps ++ i ∷ zs))
     few = rw (words-append, length-append) (omega (arith, simp length-append at (ap length (queue-law depth ps .1 (r .lost)))))
 
@@ -38,33 +38,35 @@ module _ {on : Bool} {s : ℕ} {b₀ : List ℕ} where
         go false none = absurd (omega (arith, few, ap length (none refl)))
 
     finds : (v : ℕ) → i .word ≡ some v → length (leave i (after depth ps) .held) < depth
-    finds v e = finds-room depth s ps i zs v (omega arith) (c .positive) (c .granted) (c .spaced) e
+    finds v e = finds-room depth s ps i zs v (c .deep) (c .positive) (c .granted) (c .spaced) e
 
     space : 4 * (length (after depth ps .left) + length (after depth ps .held)) ≤ length b₀
     space = omega (arith, few, c .room)
 
-    has-room : (v : ℕ) → i .word ≡ some v → first-rule on o i .state .output .held < depth
-    has-room v e = omega (arith, finds v e, rule-beside on o i enabled space r .held)
+    has-room : (v : ℕ) → i .word ≡ some v → first-rule on o i .state .output .held < first-rule on o i .state .output .depth
+    has-room v e =
+        let b = rule-beside on o i enabled space r in
+        omega (arith, finds v e, b .held, b .depth)
 
-    next : Beside b₀ (after depth (ps ++ i ∷ [])) (put on o i .state) (put on o i .buffer)
+    next : Beside depth b₀ (after depth (ps ++ i ∷ [])) (put on o i .state) (put on o i .buffer)
     next = rw after-snoc (put-beside on o i enabled space r finds)
 
-  beside-from : (ps is zs : List (Input ℕ)) (o : Out) → Conditions on s b₀ (ps ++ (is ++ zs)) → Beside b₀ (after depth ps) (o .state) (o .buffer)
-      → Fits on o is × Beside b₀ (after depth (ps ++ is)) (puts on o is .state) (puts on o is .buffer)
+  beside-from : (ps is zs : List (Input ℕ)) (o : Out) → Conditions on depth s b₀ (ps ++ (is ++ zs)) → Beside depth b₀ (after depth ps) (o .state) (o .buffer)
+      → Fits on o is × Beside depth b₀ (after depth (ps ++ is)) (puts on o is .state) (puts on o is .buffer)
   unfolding puts
   beside-from ps [] zs o c r = (tt, rw append-nil r)
   beside-from ps (i ∷ is) zs o c r =
       let (f, b) = beside-from (ps ++ i ∷ []) is zs (put on o i) (rw append-snoc c) (next ps (is ++ zs) i o c r) in
       ((has-room ps (is ++ zs) i o c r, f), rw append-snoc at b)
 
-  module _ (is zs : List (Input ℕ)) (c : Conditions on s b₀ (is ++ zs)) where
-    pub fits : Fits on (empty b₀) is
+  module _ (is zs : List (Input ℕ)) (c : Conditions on depth s b₀ (is ++ zs)) where
+    pub fits : Fits on (empty depth b₀) is
     unfolding from
-    fits = beside-from [] is zs (empty b₀) c (started b₀) .0
+    fits = beside-from [] is zs (empty depth b₀) c (started depth b₀) .0
 
-    beside : Beside b₀ (after depth is) (puts on (empty b₀) is .state) (puts on (empty b₀) is .buffer)
+    beside : Beside depth b₀ (after depth is) (puts on (empty depth b₀) is .state) (puts on (empty depth b₀) is .buffer)
     unfolding from
-    beside = beside-from [] is zs (empty b₀) c (started b₀) .1
+    beside = beside-from [] is zs (empty depth b₀) c (started depth b₀) .1
 
     in-order : after depth is .left ++ after depth is .held ≡ words is
     in-order = queue-law depth is .1 (beside .lost)
@@ -72,7 +74,7 @@ module _ {on : Bool} {s : ℕ} {b₀ : List ℕ} where
     left-first : take (length (after depth is .left)) (words is) ≡ after depth is .left
     left-first = rw (← in-order) (take-at _ _ _ refl)
 
-    pub landed : (start : ℕ) (memory : List ℕ) → b₀ ≡ drop start memory → Landed s start memory is (puts on (empty b₀) is)
+    pub landed : (start : ℕ) (memory : List ℕ) → b₀ ≡ drop start memory → Landed depth s start memory is (puts on (empty depth b₀) is)
     unfolding with-words
     landed start memory e =
         let b = beside in
@@ -91,5 +93,5 @@ module _ {on : Bool} {s : ℕ} {b₀ : List ℕ} where
         gone t h =
             let early : t ≤ length is = omega arith in
             let all = is ++ zs in
-            let g = served depth s all (omega arith) (c .positive) (c .granted) (c .spaced) (length is) .in-time t h (rw length-append (omega arith)) in
+            let g = served depth s all (c .deep) (c .positive) (c .granted) (c .spaced) (length is) .in-time t h (rw length-append (omega arith)) in
             rw (take-append-le t is zs, take-at is zs (length is) refl) at g

@@ -6,7 +6,7 @@ use mathlib.Core.Option.{Option, none, some}
 use mathlib.Core.Path.{_≡_}
 use Prim.Native.Nat.{ℕ, _+_, _*_, _≤_, _<_}
 use lib.ListN.{length, take, drop}
-use Rattle.output.specs.Output.{OutputState, depth, contents, count-sample, Granted as Ruled, grant, offer}
+use Rattle.output.specs.Output.{OutputState, contents, count-sample, Granted as Ruled, grant, offer}
 use Rattle.queue.specs.Queue.{Input, words, Granted, Spaced}
 use Rattle.landing.specs.Memory.{with-words}
 
@@ -35,10 +35,12 @@ puts on o (i ∷ is) = puts on (put on o i) is
 -- Every word that comes finds room in the FIFO.
 abbrev pub Fits : Bool → Out → List (Input ℕ) → Type 0
 Fits on o [] = Unit {0}
-Fits on o (i ∷ is) = ((v : ℕ) → i .word ≡ some v → first-rule on o i .state .output .held < depth) × Fits on (put on o i) is
+Fits on o (i ∷ is) =
+    ((v : ℕ) → i .word ≡ some v → first-rule on o i .state .output .held < first-rule on o i .state .output .depth) × Fits on (put on o i) is
 
--- Grants enough, words s samples apart, room for all of them in the frame buffer, and none while ENABLE is 0.
-pub record Conditions (on : Bool) (s : ℕ) (buffer : List ℕ) (is : List (Input ℕ)) : Type 0 where
+-- A depth (W9), grants enough for it, words s samples apart, room for all of them in the frame buffer, and none while ENABLE is 0.
+pub record Conditions (on : Bool) (depth s : ℕ) (buffer : List ℕ) (is : List (Input ℕ)) : Type 0 where
+  pub deep : 1 ≤ depth
   pub positive : 1 ≤ s
   pub granted : Granted depth s is
   pub spaced : Spaced s is
@@ -47,7 +49,7 @@ pub record Conditions (on : Bool) (s : ℕ) (buffer : List ℕ) (is : List (Inpu
 
 -- After some inputs: the first of their words, as many as landed counts, stand in memory, and the rest are held, in order; `in-time`: what came in
 -- the first t samples has landed once depth * s more are over.
-pub record Landed (s start : ℕ) (memory : List ℕ) (is : List (Input ℕ)) (o : Out) : Type 0 where
+pub record Landed (depth s start : ℕ) (memory : List ℕ) (is : List (Input ℕ)) (o : Out) : Type 0 where
   pub none-discarded : o .state .output .counts .discarded ≡ 0
   pub completed : o .state .output .counts .completed ≡ length (words is)
   pub in-memory : take start memory ++ o .buffer ≡ with-words start (take (o .state .output .counts .landed) (words is)) memory

@@ -1,9 +1,10 @@
--- From reset no list of calls reaches a malformed device, and completed = landed + held + discarded after every one.
+-- From a device made with a depth from 1 to 32 no list of calls reaches a malformed one, and completed = landed + held + discarded after every one.
 -- The idea: each call keeps a well-formed device so, and the equation is one of its facts. Assumes nothing.
 use mathlib.Core.Bool.{false}
 use mathlib.Core.List.{List, [], _∷_}
 use mathlib.Core.Path.{_≡_}
-use Prim.Native.Nat.{_+_}
+use Prim.Native.Nat.{ℕ, _+_}
+use Rattle.output.specs.WellFormed.{bad-depth}
 use Rattle.rules.specs.declared.Device.{Device}
 use Rattle.rules.specs.WellFormed.{malformed}
 use Rattle.rules.proofs.WellFormed.{facts}
@@ -25,10 +26,10 @@ calls-keep P keeps d [] h = h
 calls-keep P keeps d (c ∷ cs) h = calls-keep P keeps (after d c) cs (keeps d c h)
 
 -- No accepted call from reset makes a malformed device.
-pub never-malformed : (cs : List Call) → malformed (reached cs) ≡ false
-never-malformed cs = calls-keep (λ d. malformed d ≡ false) call-keeps _ cs fresh-well-formed
+pub never-malformed : (depth : ℕ) → bad-depth depth ≡ false → (cs : List Call) → malformed (reached depth cs) ≡ false
+never-malformed depth sound cs = calls-keep (λ d. malformed d ≡ false) call-keeps _ cs (fresh-well-formed depth sound)
 
 -- The counts balance.
-pub conservation : (cs : List Call)
-    → reached cs .core .output .counts .completed ≡ reached cs .core .output .counts .landed + reached cs .core .output .held + reached cs .core .output .counts .discarded
-conservation cs = facts (reached cs) (never-malformed cs) .output .equation
+pub conservation : (depth : ℕ) → bad-depth depth ≡ false → (cs : List Call)
+    → let o = reached depth cs .core .output in o .counts .completed ≡ o .counts .landed + o .held + o .counts .discarded
+conservation depth sound cs = facts (reached depth cs) (never-malformed depth sound cs) .output .equation

@@ -1,4 +1,4 @@
--- The device's counts are those of its history: samples, completed, landed, discarded and held, over every list of calls from reset.
+-- The device's counts are those of its history: samples, completed, landed, discarded and held, over every depth and every list of calls.
 -- The idea: rule 1 makes of the counts what the landing says, and rule 9 what the word says; of the calls without samples only disabling changes them. No device has
 -- to be well-formed for it. Assumes nothing.
 use mathlib.Core.Bool.{Bool, true, false, cond, not, _&&_}
@@ -17,10 +17,10 @@ use Rattle.registers.specs.declared.Found.{Found}
 use Rattle.registers.specs.declared.Found.the-variants.{At, Nothing}
 use Rattle.refusals.specs.Refusals.{_⇒_, first}
 use Rattle.samples.specs.Samples.{bus-grant}
-use Rattle.output.specs.Output.{depth, OutputState, contents, with-held, holding, with-counts, with-place, count-sample, count-word, count-discarded, count-landed, fresh-output, room, Granted, no-landing, lands, oldest-lands, grant, Offered, offer, discard}
+use Rattle.output.specs.Output.{OutputState, contents, with-held, holding, with-counts, with-place, count-sample, count-word, count-discarded, count-landed, fresh-output, room, Granted, no-landing, lands, oldest-lands, grant, Offered, offer, discard}
 use Rattle.rules.specs.declared.Capture.{Capture}
 use Rattle.rules.specs.declared.Device.{Device}
-use Rattle.rules.specs.State.{output-of, fresh, with-cr, with-ris, with-ier, with-cwstrt, with-cwsize, with-registers}
+use Rattle.rules.specs.State.{output-of, fresh-of, with-cr, with-ris, with-ier, with-cwstrt, with-cwsize, with-registers}
 use Rattle.rules.specs.RegisterCalls.{write-control, clear-flags, write-register, write-at, write-refusal, write, rearmed, rearm}
 use Rattle.rules.specs.Run.{after-word, full-word, complete, after-grant, counted, step, steps, run-refusal, run, sample}
 use Rattle.rules.specs.WellFormed.{malformed}
@@ -50,7 +50,7 @@ complete-counted none s x = refl
 complete-counted (some v) s x =
     either
     (λ (r : Offered). let c = after-word (r .fate) v s (r .state) in word-entry (c .packed) (numbers (x .output)) ≡ numbers (c .device .core .output))
-    (ltb (x .output .held) depth)
+    (ltb (x .output .held) (x .output .depth))
     refl
     refl
 
@@ -135,6 +135,6 @@ calls-counted d [] = refl
 calls-counted d (c ∷ cs) = rw (enter-append, call-counted d c) (calls-counted (after d c) cs)
 
 -- The ledger of the history has the device's numbers.
-pub counts-from-history : (cs : List Call) → ledger (history cs) ≡ numbers (reached cs .core .output)
-unfolding fresh fresh-output holding with-held blank
-counts-from-history cs = calls-counted fresh cs
+pub counts-from-history : (depth : ℕ) (cs : List Call) → ledger (history depth cs) ≡ numbers (reached depth cs .core .output)
+unfolding fresh-of fresh-output holding with-held blank
+counts-from-history depth cs = calls-counted (fresh-of depth) cs

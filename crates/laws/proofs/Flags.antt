@@ -20,7 +20,7 @@ use Rattle.registers.specs.declared.Found.the-variants.{At, Nothing}
 use Rattle.refusals.specs.Refusals.{_⇒_, first}
 use Rattle.rules.specs.declared.Capture.{Capture}
 use Rattle.rules.specs.declared.Device.{Device}
-use Rattle.rules.specs.State.{fresh, fresh-capture, with-cr, with-ris, with-ier, with-cwstrt, with-cwsize, with-registers, with-pins, with-syncs, with-frame, with-rate, with-partial, raise, clear-capture, close-frame}
+use Rattle.rules.specs.State.{fresh-of, fresh-capture, with-cr, with-ris, with-ier, with-cwstrt, with-cwsize, with-registers, with-pins, with-syncs, with-frame, with-rate, with-partial, raise, clear-capture, close-frame}
 use Rattle.rules.specs.Capture.{remember-pins}
 use Rattle.rules.specs.RegisterCalls.{enabling, disabling, switch-enable, capture-rises, switch-capture, write-control, clear-flags, write-register, write-at, write-refusal, write, rearmed, rearm}
 use Rattle.rules.specs.Run.{lose-frame, after-grant, step, steps, run-refusal, run, sample}
@@ -100,6 +100,6 @@ call-error d (a-sample memory start w) low =
     either No-error (eqb (run-refusal d memory start (w ∷ [])) 0) (step-error d (drop start memory) w ∙ low) low
 
 -- ERR never rises.
-pub error-never-rises : (cs : List Call) → bit 2 (reached cs .core .capture .registers .ris) ≡ false
-unfolding fresh fresh-capture
-error-never-rises cs = calls-keep No-error call-error fresh cs refl
+pub error-never-rises : (depth : ℕ) (cs : List Call) → bit 2 (reached depth cs .core .capture .registers .ris) ≡ false
+unfolding fresh-of fresh-capture
+error-never-rises depth cs = calls-keep No-error call-error (fresh-of depth) cs refl

@@ -1,4 +1,4 @@
--- FRAME and the window's last line (request W1), over every list of calls from reset, with writes between the samples: the test `window-ended` is what the history of the
+-- FRAME and the window's last line (request W1), over every depth and every list of calls, with writes between the samples: the test `window-ended` is what the history of the
 -- open frame says (`window-ended-is-history`), and rule 4 raises FRAME at most once in a frame (`frame-rises-once`), just once in a taken one that it ends (`frame-risen-at-the-end`).
 -- The idea: each sample and each write keeps the history told (`FrameEdges`); no write changes window or CROP while a frame is open. Assumes nothing.
 use mathlib.Core.Bool.{Bool, true, false, cond, not, _&&_}
@@ -19,6 +19,7 @@ use Rattle.registers.specs.declared.Found.the-variants.{At, Nothing}
 use Rattle.refusals.specs.Refusals.{_⇒_, first}
 use Rattle.refusals.proofs.Accepted.{accepted}
 use Rattle.samples.specs.Samples.{pixel-data}
+use Rattle.output.specs.WellFormed.{bad-depth}
 use Rattle.rules.specs.declared.Registers.{Registers}
 use Rattle.rules.specs.declared.Pins.{Pins}
 use Rattle.rules.specs.declared.Syncs.{Syncs}
@@ -27,7 +28,7 @@ use Rattle.rules.specs.declared.Frame.{Frame}
 use Rattle.rules.specs.declared.Frame.the-variants.{Closed, Open}
 use Rattle.rules.specs.declared.Capture.{Capture}
 use Rattle.rules.specs.declared.Device.{Device}
-use Rattle.rules.specs.State.{fresh, fresh-capture, with-cr, with-ris, with-ier, with-cwstrt, with-cwsize, with-registers, with-pins, with-syncs, with-frame, with-rate, with-partial, close-frame}
+use Rattle.rules.specs.State.{fresh-of, fresh-capture, with-cr, with-ris, with-ier, with-cwstrt, with-cwsize, with-registers, with-pins, with-syncs, with-frame, with-rate, with-partial, close-frame}
 use Rattle.rules.specs.Capture.{no-word, working-edge, enabled, remember-pins, blanking, window-ended, hsync-after-window, frame-rises, starts, capture-sample, at-edge}
 use Rattle.rules.specs.RegisterCalls.{changes-setup, fixed-at, register-tests, enabling, disabling, switch-enable, capture-rises, switch-capture, write-control, clear-flags, write-register, write-at, write-refusal, write, rearmed, rearm}
 use Rattle.rules.specs.Run.{Packed, lose-frame, after-grant, step, steps, run-refusal, run, sample}
@@ -164,27 +165,29 @@ unfolding after-all events-of-all frame-entries
 calls-told d [] h formed told = told
 calls-told d (c ∷ cs) h formed told = rw entries-append (calls-told (after d c) cs _ (call-keeps d c formed) (call-told d c h formed told))
 
-history-told : (cs : List Call) → Told (reached cs .core .capture) (frame-history (history cs))
-unfolding fresh fresh-capture no-history
-history-told cs = calls-told fresh cs no-history fresh-well-formed (omega arith)
+-- From a device made with a depth from 1 to 32.
+module _ (depth : ℕ) (sound : bad-depth depth ≡ false) (cs : List Call) where
+  history-told : Told (reached depth cs .core .capture) (frame-history (history depth cs))
+  unfolding fresh-of fresh-capture no-history
+  history-told = calls-told (fresh-of depth) cs no-history (fresh-well-formed depth sound) (omega arith)
 
--- The test that rule 4 makes of the lines begun and of HSYNC at the last working edge is what the history of the open frame says.
-pub window-ended-is-history : (cs : List Call) (taken : Bool) (f : Scan) → reached cs .core .capture .frame ≡ Open taken f
-    → window-ended (reached cs .core .capture) f ≡ frame-history (history cs) .ended
-unfolding window-ended
-window-ended-is-history cs taken f e = (rw e at (history-told cs)) .0
+  -- The test that rule 4 makes of the lines begun and of HSYNC at the last working edge is what the history of the open frame says.
+  pub window-ended-is-history : (taken : Bool) (f : Scan) → reached depth cs .core .capture .frame ≡ Open taken f
+      → window-ended (reached depth cs .core .capture) f ≡ frame-history (history depth cs) .ended
+  unfolding window-ended
+  window-ended-is-history taken f e = (rw e at history-told) .0
 
--- Rule 4 raises FRAME at most once in a frame.
-pub frame-rises-once : (cs : List Call) → frame-history (history cs) .risen ≤ 1
-frame-rises-once cs = once (reached cs .core .capture) (frame-history (history cs)) (history-told cs)
+  -- Rule 4 raises FRAME at most once in a frame.
+  pub frame-rises-once : frame-history (history depth cs) .risen ≤ 1
+  frame-rises-once = once (reached depth cs .core .capture) (frame-history (history depth cs)) history-told
 
--- And in a taken frame that VSYNC ends it has risen just once by then, there or before.
-pub frame-risen-at-the-end : (cs : List Call) (f : Scan) (w : ℕ) (landing : Option ℕ) (packed : Packed)
-    → let s = reached cs .core .capture in s .frame ≡ Open true f → working-edge s w && enabled s ≡ true → blanking s w .vsync ≡ true
-    → frame-entry (frame-history (history cs)) (sampled s w landing packed) .risen ≡ 1
-unfolding frame-entry
-frame-risen-at-the-end cs f w landing packed e goes-on ends =
-    let s = reached cs .core .capture in
-    let h = frame-history (history cs) in
-    let now : blanking s w ≡ blanks (blanking s w .hsync) true = λ i. record { hsync = blanking s w .hsync; vsync = ends i } in
-    rw (goes-on, now) (ends-risen true f s (blanking s w .hsync) h e (history-told cs))
+  -- And in a taken frame that VSYNC ends it has risen just once by then, there or before.
+  pub frame-risen-at-the-end : (f : Scan) (w : ℕ) (landing : Option ℕ) (packed : Packed)
+      → let s = reached depth cs .core .capture in s .frame ≡ Open true f → working-edge s w && enabled s ≡ true → blanking s w .vsync ≡ true
+      → frame-entry (frame-history (history depth cs)) (sampled s w landing packed) .risen ≡ 1
+  unfolding frame-entry
+  frame-risen-at-the-end f w landing packed e goes-on ends =
+      let s = reached depth cs .core .capture in
+      let h = frame-history (history depth cs) in
+      let now : blanking s w ≡ blanks (blanking s w .hsync) true = λ i. record { hsync = blanking s w .hsync; vsync = ends i } in
+      rw (goes-on, now) (ends-risen true f s (blanking s w .hsync) h e history-told)

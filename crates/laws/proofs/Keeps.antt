@@ -1,13 +1,16 @@
--- A device is well-formed when fresh, and a run of samples and a single sample keep it so.
+-- A device is well-formed when made with a depth from 1 to 32, and a run of samples and a single sample keep it so.
 -- The idea: each sample does (KeepsSample), so all of them do, by induction; a refused call leaves the device as it was. Assumes nothing.
 use mathlib.Core.Bool.{false}
 use mathlib.Core.List.{List, [], _∷_, _++_}
 use mathlib.Core.Path.{_≡_, refl}
 use Prim.Native.Nat.{ℕ}
+use native.Mathlib.Omega.{arith}
 use lib.Dec.{eqb}
+use borrow.Author.Tests.{le-ltb}
 use lib.ListN.{drop}
 use Rattle.rules.specs.declared.Device.{Device}
-use Rattle.rules.specs.State.{fresh}
+use Rattle.output.specs.WellFormed.{bad-depth}
+use Rattle.rules.specs.State.{fresh-of}
 use Rattle.rules.specs.WellFormed.{malformed}
 use Rattle.rules.proofs.EveryRule.{every-rule}
 use Rattle.rules.specs.Run.{step, steps, run-refusal, run, sample}
@@ -15,9 +18,9 @@ use Rattle.bits.proofs.Booleans.{either}
 use Rattle.rules.proofs.WellFormed.{WellFormed, facts, well-formed}
 use Rattle.laws.proofs.KeepsSample.{step-keeps}
 
-pub fresh-well-formed : malformed fresh ≡ false
+pub fresh-well-formed : (depth : ℕ) → bad-depth depth ≡ false → malformed (fresh-of depth) ≡ false
 unfolding every-rule
-fresh-well-formed = refl
+fresh-well-formed depth sound = rw (le-ltb depth 0 (omega arith), sound)
 
 -- Samples one after the other: those of two lists are those of the second after those of the first.
 pub steps-append : (d : Device) (b xs ys : List ℕ) → steps d b (xs ++ ys) ≡ steps (steps d b xs .device) (steps d b xs .buffer) ys

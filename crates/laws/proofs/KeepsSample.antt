@@ -12,7 +12,7 @@ use Rattle.registers.specs.Control.{snapshot, enable}
 use Rattle.samples.specs.Samples.{bus-grant}
 use Rattle.output.specs.declared.Fate.{Fate}
 use Rattle.output.specs.declared.Fate.the-variants.{Held, Lost}
-use Rattle.output.specs.Output.{holding, with-held, contents, count-word, count-discarded, depth, OutputState, count-sample, with-counts, grant, Offered, offer, discard}
+use Rattle.output.specs.Output.{holding, with-held, contents, count-word, count-discarded, OutputState, count-sample, with-counts, grant, Offered, offer, discard}
 use Rattle.output.specs.WellFormed.{Laid}
 use Rattle.output.proofs.WellFormed.{OutputOk, enabling-ok, count-sample-ok, grant-ok, held-ok, lost-ok}
 use Rattle.output.proofs.Untouched.{grant-untouched, offer-untouched, discard-laid}
@@ -39,8 +39,8 @@ full-word-ok : (v : ℕ) (s : Capture) (x : OutputState) → x .output .counts .
     → enable (s .registers .cr) ≡ true → CaptureOk (x .output .counts .samples) s → OutputOk true x → WellFormed (full-word v s x .device)
 unfolding full-word offer after-word holding with-held discard count-word count-discarded with-counts
 full-word-ok v s x more on c q =
-    by-cond (λ (r : Offered). WellFormed (after-word (r .fate) v s (r .state) .device)) (ltb (x .output .held) depth) _ _
-    (λ t. record { capture = c; output = rw on (held-ok q more v (ltb-true (x .output .held) depth t)) })
+    by-cond (λ (r : Offered). WellFormed (after-word (r .fate) v s (r .state) .device)) (ltb (x .output .held) (x .output .depth)) _ _
+    (λ t. record { capture = c; output = rw on (held-ok q more v (ltb-true (x .output .held) (x .output .depth) t)) })
     (λ t. record { capture = lose-frame-ok c; output = lost-ok q more v })
 
 complete-ok : (o : Option ℕ) (s : Capture) (x : OutputState) → x .output .counts .completed < x .output .counts .samples
@@ -80,11 +80,11 @@ by-word P (some v) s x nothing held lost = go (offer v x .fate)
 -- The FIFO stays laid out in the slots.
 pub counted-laid : {x : OutputState} → Laid x → Laid (counted x)
 unfolding counted count-sample with-counts contents
-counted-laid l = record { fits = l .fits; slots = l .slots }
+counted-laid l = record { fits = l .fits; within = l .within; slots = l .slots }
 
 complete-laid : (o : Option ℕ) (s : Capture) (x : OutputState) → Laid x → Laid (output-of (complete o s x .device))
 complete-laid o s x l =
-    by-word (λ (d : Device). Laid (output-of d)) o s x l (λ v. offer-untouched v x .laid l) (λ v. discard-laid 1 (offer v x .state))
+    by-word (λ (d : Device). Laid (output-of d)) o s x l (λ v. offer-untouched v x .laid l) (λ v. discard-laid 1 (offer v x .state) (offer-untouched v x .laid l .within))
 
 pub step-laid : (d : Device) (buffer : List ℕ) (w : ℕ) → Laid (output-of d) → Laid (output-of (step d buffer w .device))
 unfolding step after-grant counted

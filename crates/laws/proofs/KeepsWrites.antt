@@ -67,7 +67,7 @@ unfolding write-at write-register write-control discard holding with-held count-
 control-ok d v c w =
     let q = w .output in
     by-cond (λ (x : OutputState). WellFormed (device (write-control v (capture-of d)) x)) (enable (d .core .capture .registers .cr) && not (enable v)) _ _
-    (λ falls. record { capture = c; output = discard-ok q 0 (d .core .output) (q .completed) (q .place) (omega (arith, q .equation)) })
+    (λ falls. record { capture = c; output = discard-ok q 0 (d .core .output) (q .depth) (q .completed) (q .place) (omega (arith, q .equation)) })
     (λ stays. record { capture = c; output = enabling-ok q (λ off. and-false-left _ _ stays (not-is-true (enable v) off)) })
 
 write-at-ok : (d : Device) (r : Found) (v : ℕ) → v < 2 ^ 32 → reserved-at r v ≡ false → unsupported-at r v ≡ false
@@ -104,7 +104,7 @@ rearmed-ok d w =
     record {
       capture = w .capture;
       output =
-          record { held = q .held; clear = q .clear; idle = q .idle; completed = q .completed; place = omega arith; equation = q .equation };
+          record { depth = q .depth; held = q .held; clear = q .clear; idle = q .idle; completed = q .completed; place = omega arith; equation = q .equation };
     }
 
 pub rearm-keeps : (d : Device) → malformed d ≡ false → malformed (rearm d .device) ≡ false

@@ -15,3 +15,4 @@ pub mod FrameEdges
 pub mod FrameHistory
 pub mod FrameFlag
 pub mod Before
+pub mod Depth

@@ -1,4 +1,4 @@
--- Every list of calls from reset, in any order: register writes, re-arming, runs and single samples, each with whatever memory and
+-- Every list of calls on a device made with a depth (W9), in any order: register writes, re-arming, runs and single samples, each with whatever memory and
 -- start byte it is lent. A refused call changes nothing, so the list stands for its accepted calls. And the events of such a list, in order.
 use mathlib.Core.Bool.{cond, not, _&&_}
 use mathlib.Core.List.{List, [], _∷_, _++_}
@@ -9,7 +9,7 @@ use lib.ListN.{drop}
 use Rattle.registers.specs.Control.{enable}
 use Rattle.rules.specs.declared.Capture.{Capture}
 use Rattle.rules.specs.declared.Device.{Device}
-use Rattle.rules.specs.State.{fresh}
+use Rattle.rules.specs.State.{fresh-of}
 use Rattle.rules.specs.RegisterCalls.{write, rearm}
 use Rattle.rules.specs.Run.{Packed, step, run-refusal, run, sample}
 
@@ -31,8 +31,8 @@ unfoldable pub after-all : Device → List Call → Device
 after-all d [] = d
 after-all d (c ∷ cs) = after-all (after d c) cs
 
-abbrev pub reached : List Call → Device
-reached cs = after-all fresh cs
+abbrev pub reached : ℕ → List Call → Device
+reached depth cs = after-all (fresh-of depth) cs
 
 -- An event: an accepted sample, with the capture state that it found and its two answers; or ENABLE going from 1 to 0.
 pub data Event : Type 0 where
@@ -68,5 +68,5 @@ unfoldable pub events-of-all : Device → List Call → List Event
 events-of-all d [] = []
 events-of-all d (c ∷ cs) = events d c ++ events-of-all (after d c) cs
 
-abbrev pub history : List Call → List Event
-history cs = events-of-all fresh cs
+abbrev pub history : ℕ → List Call → List Event
+history depth cs = events-of-all (fresh-of depth) cs

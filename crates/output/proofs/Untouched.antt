@@ -10,20 +10,21 @@ use borrow.Author.Tests.{ltb-true}
 use Rattle.bits.proofs.Booleans.{by-cond}
 use Rattle.output.specs.declared.Fate.{Fate}
 use Rattle.output.specs.declared.Fate.the-variants.{Held, Lost}
-use Rattle.output.specs.Output.{depth, OutputState, contents, push, laid, with-held, holding, with-counts, with-place, count-word, count-discarded, count-landed, room, Granted, no-landing, lands, oldest-lands, grant, Offered, offer, discard}
+use Rattle.output.specs.Output.{slot-count, OutputState, contents, push, laid, with-held, holding, with-counts, with-place, count-word, count-discarded, count-landed, room, Granted, no-landing, lands, oldest-lands, grant, Offered, offer, discard}
 use Rattle.output.specs.WellFormed.{Laid}
 use Rattle.output.proofs.Contents.{holding-laid, held-length}
 
--- Rule 1: the samples and the words completed and discarded stay; it holds no more than before, and the FIFO stays laid out.
+-- Rule 1: the samples, the words completed and discarded and the depth stay; it holds no more than before, and the FIFO stays laid out.
 pub record Untouched (x y : OutputState) : Type 0 where
   pub samples : y .output .counts .samples ≡ x .output .counts .samples
   pub completed : y .output .counts .completed ≡ x .output .counts .completed
   pub discarded : y .output .counts .discarded ≡ x .output .counts .discarded
+  pub depth : y .output .depth ≡ x .output .depth
   pub held : y .output .held ≤ x .output .held
   pub laid : Laid x → Laid y
 
 untouched : (x : OutputState) → Untouched x x
-untouched x = record { samples = refl; completed = refl; discarded = refl; held = omega arith; laid = λ l. l }
+untouched x = record { samples = refl; completed = refl; discarded = refl; depth = refl; held = omega arith; laid = λ l. l }
 
 lands-untouched : (x : OutputState) (v : ℕ) (vs buffer : List ℕ) → contents x ≡ v ∷ vs → Untouched x (lands v vs (x .output) buffer .state)
 unfolding lands holding with-held count-landed with-place with-counts
@@ -32,8 +33,9 @@ lands-untouched x v vs buffer is =
       samples = refl;
       completed = refl;
       discarded = refl;
+      depth = refl;
       held = omega arith;
-      laid = λ l. holding-laid (x .output .held - 1) vs (count-landed (x .output)) (omega (arith, rw is at (held-length x l))) (omega (arith, l .fits));
+      laid = λ l. holding-laid (x .output .held - 1) vs (count-landed (x .output)) (omega (arith, rw is at (held-length x l))) (omega (arith, l .fits)) (l .within);
     }
 
 oldest-untouched : (x : OutputState) (vs buffer : List ℕ) → contents x ≡ vs → Untouched x (oldest-lands vs x buffer .state)
@@ -47,14 +49,15 @@ unfolding grant no-landing
 grant-untouched granted enabled x buffer =
     by-cond (λ (g : Granted). Untouched x (g .state)) (granted && enabled) _ _ (λ t. oldest-untouched x (contents x) buffer refl) (λ t. untouched x)
 
--- Rule 9: the samples and the words landed and discarded stay, and the FIFO stays laid out.
+-- Rule 9: the samples, the words landed and discarded and the depth stay, and the FIFO stays laid out.
 pub record UntouchedByWord (x y : OutputState) : Type 0 where
   pub samples : y .output .counts .samples ≡ x .output .counts .samples
   pub landed : y .output .counts .landed ≡ x .output .counts .landed
   pub discarded : y .output .counts .discarded ≡ x .output .counts .discarded
+  pub depth : y .output .depth ≡ x .output .depth
   pub laid : Laid x → Laid y
 
-held-untouched : (v : ℕ) (x : OutputState) → x .output .held < depth
+held-untouched : (v : ℕ) (x : OutputState) → x .output .held < x .output .depth
     → UntouchedByWord x (holding (x .output .held + 1) (push v (contents x)) (count-word (x .output)))
 unfolding holding with-held count-word with-counts
 held-untouched v x space =
@@ -63,23 +66,24 @@ held-untouched v x space =
       samples = refl;
       landed = refl;
       discarded = refl;
-      laid = λ l. holding-laid (x .output .held + 1) (push v (contents x)) (count-word (x .output)) (long l) (omega arith);
+      depth = refl;
+      laid = λ l. holding-laid (x .output .held + 1) (push v (contents x)) (count-word (x .output)) (long l) (omega arith) (l .within);
     }
 
 lost-untouched : (x : OutputState) → UntouchedByWord x (record { output = count-word (x .output); slots = x .slots })
 unfolding count-word with-counts contents
-lost-untouched x = record { samples = refl; landed = refl; discarded = refl; laid = λ l. record { fits = l .fits; slots = l .slots } }
+lost-untouched x = record { samples = refl; landed = refl; discarded = refl; depth = refl; laid = λ l. record { fits = l .fits; within = l .within; slots = l .slots } }
 
 pub offer-untouched : (v : ℕ) (x : OutputState) → UntouchedByWord x (offer v x .state)
 unfolding offer
 offer-untouched v x =
-    by-cond (λ (r : Offered). UntouchedByWord x (r .state)) (ltb (x .output .held) depth) _ _
-    (λ t. held-untouched v x (ltb-true (x .output .held) depth t))
+    by-cond (λ (r : Offered). UntouchedByWord x (r .state)) (ltb (x .output .held) (x .output .depth)) _ _
+    (λ t. held-untouched v x (ltb-true (x .output .held) (x .output .depth) t))
     (λ t. lost-untouched x)
 
-pub discard-laid : (more : ℕ) (x : OutputState) → Laid (discard more x)
-unfolding discard
-discard-laid more x = holding-laid 0 [] (count-discarded (x .output .held + more) (x .output)) refl (omega arith)
+pub discard-laid : (more : ℕ) (x : OutputState) → x .output .depth ≤ slot-count → Laid (discard more x)
+unfolding discard count-discarded with-counts
+discard-laid more x within = holding-laid 0 [] (count-discarded (x .output .held + more) (x .output)) refl (omega arith) within
 
 held-lost : Held ≡ Lost → ⊥
 held-lost e = let z : _≡_ {A = ℕ} 0 1 = ap (λ (f : Fate). elim f [ Held ↦ 0 | Lost ↦ 1 ]) e in omega arith
@@ -88,6 +92,6 @@ held-lost e = let z : _≡_ {A = ℕ} 0 1 = ap (λ (f : Fate). elim f [ Held ↦
 pub offer-lost : (v : ℕ) (x : OutputState) → offer v x .fate ≡ Lost → offer v x .state ≡ record { output = count-word (x .output); slots = x .slots }
 unfolding offer
 offer-lost v x =
-    by-cond (λ (r : Offered). r .fate ≡ Lost → r .state ≡ record { output = count-word (x .output); slots = x .slots }) (ltb (x .output .held) depth) _ _
+    by-cond (λ (r : Offered). r .fate ≡ Lost → r .state ≡ record { output = count-word (x .output); slots = x .slots }) (ltb (x .output .held) (x .output .depth)) _ _
     (λ t is. absurd (held-lost is))
     (λ t is. refl)

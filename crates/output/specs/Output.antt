@@ -11,14 +11,14 @@ use Rattle.output.specs.declared.Output.{Output}
 use Rattle.output.specs.declared.Fate.{Fate}
 use Rattle.output.specs.declared.Fate.the-variants.{Held, Lost}
 
--- How many slots there are, and how many words the FIFO holds at most (the paper decides; 004, 32.3.10 has 8).
+-- How many slots there are, for the greatest depth; and the depth where none is named (W9; the paper decides, 004, 32.3.10 has 8).
 abbrev pub slot-count : ℕ
-slot-count = 4
+slot-count = 32
 
-abbrev pub depth : ℕ
-depth = 4
+abbrev pub usual-depth : ℕ
+usual-depth = 4
 
--- Number held, place and counts, with the slots.
+-- Number held, place, depth and counts, with the slots.
 pub record OutputState : Type 0 where
   pub output : Output
   pub slots : List ℕ
@@ -33,7 +33,7 @@ laid vs = vs ++ replicate (slot-count - length vs) 0
 
 -- The output with another number held, and with n words vs held.
 unfoldable pub with-held : ℕ → Output → Output
-with-held n o = record { held = n; place = o .place; counts = o .counts }
+with-held n o = record { held = n; place = o .place; depth = o .depth; counts = o .counts }
 
 unfoldable pub holding : ℕ → List ℕ → Output → OutputState
 holding n vs o = record { output = with-held n o; slots = laid vs }
@@ -45,15 +45,15 @@ pop vs = drop 1 vs
 abbrev pub push : ℕ → List ℕ → List ℕ
 push v vs = vs ++ v ∷ []
 
--- At reset: nothing is held, all counts and places are 0.
-unfoldable pub fresh-output : OutputState
-fresh-output =
+-- At reset, with a depth: nothing is held, all counts and places are 0.
+unfoldable pub fresh-output : ℕ → OutputState
+fresh-output depth =
     holding 0 []
-    (record { held = 0; place = 0; counts = record { samples = 0; completed = 0; landed = 0; discarded = 0 } })
+    (record { held = 0; place = 0; depth = depth; counts = record { samples = 0; completed = 0; landed = 0; discarded = 0 } })
 
 -- The output with other counts.
 unfoldable pub with-counts : Counts → Output → Output
-with-counts c o = record { held = o .held; place = o .place; counts = c }
+with-counts c o = record { held = o .held; place = o .place; depth = o .depth; counts = c }
 
 -- One more sample.
 unfoldable pub count-sample : Output → Output
@@ -75,7 +75,7 @@ count-discarded n o =
 
 -- One more word landed: the next one goes to the next place.
 unfoldable pub with-place : ℕ → Output → Output
-with-place k o = record { held = o .held; place = k; counts = o .counts }
+with-place k o = record { held = o .held; place = k; depth = o .depth; counts = o .counts }
 
 unfoldable pub count-landed : Output → Output
 count-landed o =
@@ -133,7 +133,7 @@ pub record Offered : Type 0 where
 
 unfoldable pub offer : ℕ → OutputState → Offered
 offer v x =
-    cond (ltb (x .output .held) depth)
+    cond (ltb (x .output .held) (x .output .depth))
     (record { state = holding (x .output .held + 1) (push v (contents x)) (count-word (x .output)); fate = Held })
     (record { state = record { output = count-word (x .output); slots = x .slots }; fate = Lost })
 

@@ -6,15 +6,19 @@ use Prim.Native.Nat.{ℕ, _+_, _≤_}
 use lib.Dec.{eqb, ltb}
 use lib.ListN.{drop}
 use Rattle.output.specs.declared.Output.{Output}
-use Rattle.output.specs.Output.{OutputState, depth, contents, laid}
+use Rattle.output.specs.Output.{OutputState, slot-count, contents, laid}
 
 unfoldable pub all-zero : List ℕ → Bool
 all-zero [] = true
 all-zero (x ∷ xs) = eqb x 0 && all-zero xs
 
--- More than four held; an unused FIFO slot not 0.
+-- W9: a depth outside 1 to 32.
+unfoldable pub bad-depth : ℕ → Bool
+bad-depth depth = eqb depth 0 || ltb slot-count depth
+
+-- More held than the depth (W9); an unused FIFO slot not 0, up to the last one.
 unfoldable pub bad-fifo : OutputState → Bool
-bad-fifo x = ltb depth (x .output .held) || not (all-zero (drop (x .output .held) (x .slots)))
+bad-fifo x = ltb (x .output .depth) (x .output .held) || not (all-zero (drop (x .output .held) (x .slots)))
 
 -- Place above landed.
 unfoldable pub bad-place : Output → Bool
@@ -27,5 +31,6 @@ bad-counts o = not (eqb (o .counts .completed) (o .counts .landed + o .held + o 
 -- A FIFO that is its contents laid out, with at most as many words as the depth: what the functions over lent slots ask. One that is not malformed is
 -- (proofs/Contents, `not-malformed-laid`).
 pub record Laid (x : OutputState) : Type 0 where
-  pub fits : x .output .held ≤ depth
+  pub fits : x .output .held ≤ x .output .depth
+  pub within : x .output .depth ≤ slot-count
   pub slots : x .slots ≡ laid (contents x)

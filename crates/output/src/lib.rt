@@ -11,25 +11,26 @@ ghost use Rattle.output.specs.Output as output-rules;
 ghost use Rattle.output.specs.WellFormed.{Laid};
 ghost use Rattle.output.specs.Answers as output-answers;
 
-// How many slots there are, and how many words the FIFO holds at most.
-pub const SLOTS: usize = 4;
+// How many slots there are, for the greatest depth; and the depth where none is named.
+pub const SLOTS: usize = 32;
 
-pub const DEPTH: u32 = 4;
+pub const USUAL_DEPTH: u32 = 4;
 
 // Counts since reset.
 pub struct Counts {
     pub completed: u32,
-    pub landed: u32,
     pub samples: u32,
     pub discarded: u32,
+    pub landed: u32,
 }
 
-// The number of words held, the place of the next word to land, since the last re-arming, and the counts. The held words stand in the first slots, oldest
-// first. The order of the fields means nothing to the rules (docs/SPEED.md).
+// The number of words held, the place of the next word to land, since the last re-arming, the depth, which is the most words that can be held, and the counts. The
+// held words stand in the first slots, oldest first. The order of the fields means nothing to the rules (docs/SPEED.md).
 pub struct Output {
     pub held: u32,
-    pub place: u32,
     pub counts: Counts,
+    pub place: u32,
+    pub depth: u32,
 }
 
 // Rule 1's answer. At: the oldest held word landed at this byte of the frame buffer (`lands`). Nowhere: no word did (`no-landing`).
@@ -63,6 +64,7 @@ pub fn apart(o: Output) -> Output
     Output {
         held: o.held,
         place: o.place,
+        depth: o.depth,
         counts: Counts {
             completed: o.counts.completed,
             landed: o.counts.landed,
@@ -83,17 +85,18 @@ pub fn count_sample(o: Output) -> Output
     counted
 }
 
-// The slots moved down by one.
-fn move_down(slots: &mut [u32; SLOTS])
+// The first slots, those of the held words, moved down by one.
+fn move_down(slots: &mut [u32; SLOTS], held: usize)
     requires { ⌜ length (now slots) ≡ output-rules.slot-count ⌝ }
-    ensures { λ _. ⌜ now (slots .exit) ≡ drop 1 (now (slots .entry)) ++ 0 ∷ [] ⌝ }
+    requires { ⌜ (0 < held) × (held ≤ output-rules.slot-count) ⌝ }
+    ensures { λ _. ⌜ now (slots .exit) ≡ take (held - 1) (drop 1 (now (slots .entry))) ++ 0 ∷ drop held (now (slots .entry)) ⌝ }
 {
     let mut i = 0;
-    while i + 1 < SLOTS {
+    while i + 1 < held {
         slots[i] = slots[i + 1];
         i += 1;
     }
-    slots[SLOTS - 1] = 0;
+    slots[i] = 0;
 }
 
 // Whether word k has room in a frame buffer of some length.
@@ -149,7 +152,7 @@ fn oldest_lands(o: Output, slots: &mut [u32; SLOTS], buffer: &mut [u8]) -> Grant
         if room(o.place, buffer) {
             let at = 4 * (o.place as usize);
             store(buffer, at, slots[0]);
-            move_down(slots);
+            move_down(slots, o.held as usize);
             return Granted {
                 landing: Landing::At(at),
                 output: landed(o),
@@ -210,7 +213,7 @@ pub fn offer(v: u32, o: Output, slots: &mut [u32; SLOTS]) -> Offered
     ensures { λ r. ⌜ output-answers.offered r (now (slots .exit)) ≡ output-rules.offer v (output-answers.left o (now (slots .entry))) ⌝ }
 {
     let counted = count_word(o);
-    if o.held < DEPTH {
+    if o.held < o.depth {
         let at = o.held as usize;
         slots[at] = v;
         return Offered {

@@ -1,7 +1,7 @@
 -- The refusal numbers (document 01, "Refusal numbers"), each given exactly when its row says.
 use Prim.Native.Nat.{ℕ}
 use Rattle.refusals.specs.declared.Refusal.{Refusal}
-use Rattle.refusals.specs.declared.Refusal.the-variants.{Malformed, NoRegister, AccessKind, ReservedBit, Unsupported, Enabled, SampleBits, SampleTotal, StartBeyond, Mark, Version, SampleCount, Length, WriteCount, Room}
+use Rattle.refusals.specs.declared.Refusal.the-variants.{Malformed, NoRegister, AccessKind, ReservedBit, Unsupported, Enabled, SampleBits, SampleTotal, StartBeyond, Mark, Version, SampleCount, Length, WriteCount, Room, Depth}
 use Rattle.refusals.specs.declared.Outcome.{Outcome}
 use Rattle.refusals.specs.declared.Outcome.the-variants.{Accepted, Refused}
 
@@ -36,6 +36,8 @@ number Length = 13
 number WriteCount = 14
 -- the writer's output does not fit
 number Room = 15
+-- W9: depth 0 or above 32 where a device is made
+number Depth = 18
 
 -- 0 of an accepted call, else the refusal's number.
 abbrev pub outcome : Outcome → ℕ

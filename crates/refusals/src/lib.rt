@@ -20,6 +20,7 @@ pub enum Refusal {
     Length,
     WriteCount,
     Room,
+    Depth,
 }
 
 impl Refusal {
@@ -43,6 +44,7 @@ impl Refusal {
             Refusal::Length => 13,
             Refusal::WriteCount => 14,
             Refusal::Room => 15,
+            Refusal::Depth => 18,
         }
     }
 }

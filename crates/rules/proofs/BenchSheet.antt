@@ -11,9 +11,9 @@ use mathlib.Core.Bool.{Bool, true, false, cond}
 use mathlib.Core.List.{List, [], _∷_, _++_, map}
 use mathlib.Core.Option.{Option, none, some}
 use mathlib.Core.Path.{_≡_, refl}
-use Prim.Native.Nat.{ℕ, zero, suc, _+_}
+use Prim.Native.Nat.{ℕ, zero, suc, _+_, _-_}
 use lib.Dec.{eqb}
-use lib.ListN.{drop, replicate}
+use lib.ListN.{length, drop, replicate}
 use Rattle.registers.specs.Map.{offset, every, access, is-control, is-window, reserved, mask}
 use Rattle.registers.specs.declared.Register.{Register}
 use Rattle.registers.specs.declared.Register.the-variants.{Control, RawStatus, InterruptEnable, InterruptClear, WindowStart, WindowSize}
@@ -21,7 +21,7 @@ use Rattle.registers.specs.declared.Access.{Access}
 use Rattle.registers.specs.declared.Access.the-variants.{ReadWrite, ReadOnly, WriteOnly}
 use Rattle.refusals.specs.Refusals as refusals
 use Rattle.output.specs.declared.Output.{Output}
-use Rattle.output.specs.Output.{OutputState, word-at}
+use Rattle.output.specs.Output.{slot-count, usual-depth, OutputState, word-at}
 use Rattle.rules.specs.declared.Syncs.{Syncs}
 use Rattle.rules.specs.declared.Frame.{Frame}
 use Rattle.rules.specs.declared.Frame.the-variants.{Closed, Open}
@@ -413,16 +413,18 @@ told-by d m (e ∷ es) = let t = told d m (e .call) in t .said ∷ told-by (t .d
 unfoldable pub played : Log → List Said
 played l = told-by (l .device) (l .memory) (l .entries)
 
--- Devices made by hand. FIFO, place and counts: the slots, how many are held, the place, and samples, completed, landed, discarded.
+-- Devices made by hand. FIFO, place and counts, at the usual depth: the first slots, those behind them being 0, how many are held, the place, and samples, completed, landed,
+-- discarded.
 abbrev pub words-are : List ℕ → ℕ → ℕ → ℕ → ℕ → ℕ → ℕ → OutputState
 words-are slots held place samples full landed discarded =
     record {
-      output = record { held = held; place = place; counts = record { samples = samples; completed = full; landed = landed; discarded = discarded } };
-      slots = slots;
+      output =
+          record { held = held; place = place; depth = usual-depth; counts = record { samples = samples; completed = full; landed = landed; discarded = discarded } };
+      slots = slots ++ replicate (slot-count - length slots) 0;
     }
 
 abbrev pub no-slots : List ℕ
-no-slots = 0 ∷ 0 ∷ 0 ∷ 0 ∷ []
+no-slots = []
 
 -- The capture state with another partial word, and with an open frame.
 abbrev pub partial-is : ℕ → ℕ → Capture → Capture

@@ -12,7 +12,6 @@ use Rattle.registers.specs.Control.{edm, enable}
 use Rattle.rules.specs.declared.Capture.{Capture}
 use Rattle.rules.specs.declared.Device.{Device}
 use Rattle.packing.specs.Packing.{per-word}
-use Rattle.output.specs.Output.{depth}
 use Rattle.output.specs.WellFormed.{all-zero, bad-fifo, bad-place, bad-counts}
 use Rattle.output.proofs.WellFormed.{OutputOk}
 use Rattle.rules.specs.State.{output-of, is-open, is-taken}
@@ -62,7 +61,7 @@ pub facts : (d : Device) → malformed d ≡ false → WellFormed d
 unfolding malformed bad-fifo full-partial bad-flags partial-outside bad-rate above-samples bad-place bad-counts idles above
 facts d e =
     let n = none (clauses d) e in
-    let fifo = or-false (ltb depth (d .core .output .held)) (not (all-zero (drop (d .core .output .held) (d .slots)))) (n .0) in
+    let fifo = or-false (ltb (d .core .output .depth) (d .core .output .held)) (not (all-zero (drop (d .core .output .held) (d .slots)))) (n .0) in
     let flags = or-false (ltb 31 (d .core .capture .registers .ris)) (ltb 31 (d .core .capture .registers .ier)) (n .1 .1 .1 .1 .0) in
     let off = idle d (n .1 .1 .1 .1 .1 .0) in
     let counted = none (above d) (n .1 .1 .1 .1 .1 .1 .1 .1 .0) in
@@ -82,6 +81,7 @@ facts d e =
           };
       output =
           record {
+            depth = n .1 .1 .1 .1 .1 .1 .1 .1 .1 .1 .1 .0;
             held = ltb-false _ _ (fifo .0);
             clear = not-false _ (fifo .1);
             idle = λ x. is-zero _ (off x .1 .0);
@@ -102,7 +102,7 @@ well-formed d w =
     let off : enable (d .core .capture .registers .cr) ≡ false → None (idles d) =
     λ x. (c .idle x .0, (zero-test _ (q .idle x), (zero-test _ (c .idle x .1), (zero-test _ (c .idle x .2), tt)))) in
     let counted = none-any (above d) (le-ltb _ _ (c .lines), (le-ltb _ _ (c .pixels), (le-ltb _ _ (q .completed), tt))) in
-    let last : None (drop 8 (clauses d)) = (counted, (le-ltb _ _ (q .place), (not-is-false _ (eq-eqb _ _ (q .equation)), tt))) in
+    let last : None (drop 8 (clauses d)) = (counted, (le-ltb _ _ (q .place), (not-is-false _ (eq-eqb _ _ (q .equation)), (q .depth, tt)))) in
     let idle = imp-and-false _ _ (λ x. none-any (idles d) (off (not-true _ x))) in
     let inside = imp-and-false _ _ (λ x. not-is-false _ (c .inside (ltb-true 0 _ x))) in
     let middle : None (drop 5 (clauses d)) = (idle, (inside, (lt-leb _ _ (c .rate), last))) in

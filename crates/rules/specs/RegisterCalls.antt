@@ -1,4 +1,4 @@
--- Register reads and writes, the interrupt line and re-arming (document 01, "Registers", "Writing CR" and "Refusal numbers").
+-- Register reads and writes, the interrupt line, making a device and re-arming (document 01, "Registers", "Writing CR" and "Refusal numbers").
 use mathlib.Core.Bool.{Bool, true, false, cond, not, _&&_, _||_, Bool·beq}
 use mathlib.Core.List.{List, [], _∷_}
 use Prim.Native.Nat.{ℕ, _+_, _-_}
@@ -18,7 +18,8 @@ use Rattle.rules.specs.declared.Registers.{Registers}
 use Rattle.rules.specs.declared.Capture.{Capture}
 use Rattle.rules.specs.declared.Device.{Device}
 use Rattle.output.specs.Output.{with-place, discard}
-use Rattle.rules.specs.State.{device, capture-of, output-of, is-open, not-blanking, close-frame, with-cr, with-ris, with-ier, with-cwstrt, with-cwsize, with-registers, with-syncs, with-frame, with-rate}
+use Rattle.output.specs.WellFormed.{bad-depth}
+use Rattle.rules.specs.State.{device, capture-of, output-of, fresh-of, fresh, is-open, not-blanking, close-frame, with-cr, with-ris, with-ier, with-cwstrt, with-cwsize, with-registers, with-syncs, with-frame, with-rate}
 use Rattle.refusals.specs.Refusals.{Test, _⇒_, first, Answer, answer}
 use Rattle.rules.specs.Answers.{Changed, change}
 use Rattle.rules.specs.WellFormed.{malformed}
@@ -165,6 +166,10 @@ write-at d (At r) v =
 -- A register write: refusals 1 to 6 in order, or its effect.
 unfoldable pub write : Device → ℕ → ℕ → Changed
 write d offset v = change (write-refusal d offset v) d (write-at d (register-at offset) v)
+
+-- Making a device of a depth (W9): refusal 18 for depth 0 or above 32, the first check; refused, the device is that of the usual depth.
+unfoldable pub made : ℕ → Changed
+made depth = change (first (bad-depth depth ⇒ 18 ∷ [])) fresh (fresh-of depth)
 
 -- The interrupt line is up exactly if MIS is not 0 (004, 32.4). Refusal 1.
 unfoldable pub interrupt : Device → Answer Bool

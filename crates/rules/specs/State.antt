@@ -2,7 +2,7 @@
 use mathlib.Core.Bool.{Bool, true, false, cond}
 use Prim.Native.Nat.{ℕ, _+_, _-_, _^_}
 use Rattle.bits.specs.Bits.{bit}
-use Rattle.output.specs.Output.{OutputState, fresh-output}
+use Rattle.output.specs.Output.{usual-depth, OutputState, fresh-output}
 use Rattle.rules.specs.declared.Registers.{Registers}
 use Rattle.rules.specs.declared.Pins.{Pins}
 use Rattle.rules.specs.declared.Syncs.{Syncs}
@@ -41,8 +41,12 @@ fresh-capture =
       partial = no-partial;
     }
 
-unfoldable pub fresh : Device
-fresh = device fresh-capture fresh-output
+-- A device made with a depth (W9), and one where none is named.
+unfoldable pub fresh-of : ℕ → Device
+fresh-of depth = device fresh-capture (fresh-output depth)
+
+abbrev pub fresh : Device
+fresh = fresh-of usual-depth
 
 -- Of a frame: whether it is open, and whether it is open and taken.
 abbrev pub is-open : Frame → Bool

@@ -8,7 +8,7 @@ use Rattle.registers.specs.Control.{unsupported, edm, enable}
 use Rattle.registers.specs.Map.{reserved-set}
 use Rattle.registers.specs.declared.Register.the-variants.{Control, InterruptEnable, WindowStart, WindowSize}
 use Rattle.packing.specs.Packing.{width, per-word}
-use Rattle.output.specs.WellFormed.{bad-fifo, bad-place, bad-counts}
+use Rattle.output.specs.WellFormed.{bad-depth, bad-fifo, bad-place, bad-counts}
 use Rattle.rules.specs.declared.Registers.{Registers}
 use Rattle.rules.specs.declared.Frame.{Frame}
 use Rattle.rules.specs.declared.Frame.the-variants.{Closed, Open}
@@ -77,7 +77,7 @@ above-samples d =
     ltb (d .core .output .counts .samples) (d .core .output .counts .completed) ∷
     [])
 
--- The clauses in the paper's order.
+-- The clauses in the paper's order, and that of W9.
 abbrev pub clauses : Device → List Bool
 clauses d =
     bad-fifo (output-of d) ∷
@@ -91,6 +91,7 @@ clauses d =
     above-samples d ∷
     bad-place (d .core .output) ∷
     bad-counts (d .core .output) ∷
+    bad-depth (d .core .output .depth) ∷
     []
 
 -- Malformed means one of them: refusal 1.

@@ -29,7 +29,7 @@ more-lines {s = s} le h = pins-syncs-ok (s .pins) (s .syncs) le h
 -- A device that is not malformed is well-formed, and its FIFO is laid out in its slots.
 pub ready : (d : Device) → length (d .slots) ≡ slot-count → malformed d ≡ false → WellFormed d × Laid (output-of d)
 unfolding malformed
-ready d all e = (facts d e, not-malformed-laid (output-of d) all (none (clauses d) e .0))
+ready d all e = (facts d e, not-malformed-laid (output-of d) all (none (clauses d) e .0) (facts d e .output .depth))
 
 -- Rule 1 of a sample of the device.
 abbrev pub granted-of : Device → List ℕ → ℕ → Granted

@@ -1,43 +1,14 @@
 -- `files::run_file` meets its contract.
 use borrow.Author.Needs.{needs}
-use mathlib.Core.Path.{sym, ap, _∙_}
-use Rattle.refusals.proofs.Numbered.{never-zero}
-use Rattle.refusals.specs.Table.{outcome}
-use Rattle.files.specs.File.{run-file}
+use Rattle.files.proofs.SettingUp.{fresh-ready}
 use Rattle.files.proofs.run_file.Statement.{statement}
 use Rattle.files.proofs.run_file.Tie as tie
 
-run-content-requires : tie.Need-run-content-requires
-run-content-requires c κs = sym (c .before .before .before .check-form .ensures) ∙ ap outcome (c .before .enum-told .given .1)
+run-on-requires : tie.Need-run-on-requires
+run-on-requires c κs = rw (c .before .fresh .ensures) fresh-ready
 
 returns : tie.Need-returns
-unfolding run-file
-returns c =
-    rw (
-      c .before .before .run-content .ensures,
-      ← c .before .before .before .before .before .before .check-form .ensures,
-      c .before .before .before .before .enum-told .given .1,
-    )
-
-returns-2 : tie.Need-returns-2
-unfolding run-file
-returns-2 c =
-    rw (
-      c .refused .ensures,
-      ← c .before .before .before .before .check-form .ensures,
-      c .before .before .form .given .1,
-      never-zero (c .before .before .form .given .0 .0),
-    )
+returns c = rw (c .before .before .run-on .ensures, c .before .before .before .before .fresh .ensures)
 
 pub run-file-spec : {M : Type 1} → statement M
-run-file-spec =
-    tie.close
-    (tie.spec
-    (λ c κs. search needs)
-    (λ c. search needs)
-    (λ c. search needs)
-    run-content-requires
-    (λ c. search needs)
-    returns
-    (λ c κs. search needs)
-    returns-2)
+run-file-spec = tie.close (tie.spec (λ c κs. search needs) run-on-requires (λ c. search needs) returns)

@@ -18,7 +18,7 @@ returns c =
     let x : OutputState = record { output = a .o; slots = a .slots .now } in
     let l = c .before .before .before .before .before .pre .0 in
     let space = c .before .before .if1 .taken in
-    rw (lt-ltb _ _ space, c .one-more .ensures, c .before .before .before .before .count-word .ensures, taken-in x l (a .v) space)
+    rw (lt-ltb _ _ space, c .one-more .ensures, c .before .before .before .before .count-word .ensures, taken-in x l (a .v) (omega (arith, space, l .within)))
 
 returns-2 : tie.Need-returns-2
 unfolding offer

@@ -6,21 +6,22 @@ use Rattle.rules.specs.WellFormed.{malformed}
 use Rattle.device.proofs.well_formed.malformed.Statement.{statement}
 use Rattle.device.proofs.well_formed.malformed.Tie as tie
 
-returns-11 : tie.Need-returns-11
+returns-12 : tie.Need-returns-12
 unfolding malformed
-returns-11 c =
+returns-12 c =
     rw (
-      sym (c .before .before .before .before .before .before .before .before .before .before .before .before .before .before .before .before .before .before .before .before .bad-fifo .ensures) ∙ c .before .before .before .before .before .before .before .before .before .before .before .before .before .before .before .before .before .before .before .if1 .left,
-      sym (c .before .before .before .before .before .before .before .before .before .before .before .before .before .before .before .before .before .before .unused-bits .ensures) ∙ c .before .before .before .before .before .before .before .before .before .before .before .before .before .before .before .before .before .if2 .left,
-      sym (c .before .before .before .before .before .before .before .before .before .before .before .before .before .before .before .before .full-partial .ensures) ∙ c .before .before .before .before .before .before .before .before .before .before .before .before .before .before .before .if3 .left,
-      sym (c .before .before .before .before .before .before .before .before .before .before .before .before .before .before .excluded .ensures) ∙ c .before .before .before .before .before .before .before .before .before .before .before .before .before .if4 .left,
-      sym (c .before .before .before .before .before .before .before .before .before .before .before .before .bad-flags .ensures) ∙ c .before .before .before .before .before .before .before .before .before .before .before .if5 .left,
-      sym (c .before .before .before .before .before .before .before .before .before .before .active-disabled .ensures) ∙ c .before .before .before .before .before .before .before .before .before .if6 .left,
-      sym (c .before .before .before .before .before .before .before .before .partial-outside .ensures) ∙ c .before .before .before .before .before .before .before .if7 .left,
-      sym (c .before .before .before .before .before .before .bad-rate .ensures) ∙ c .before .before .before .before .before .if8 .left,
-      sym (c .before .before .before .before .above-samples .ensures) ∙ c .before .before .before .if9 .left,
-      sym (c .before .before .bad-place .ensures) ∙ c .before .if10 .left,
-      ← c .bad-counts .ensures,
+      sym (c .before .before .before .before .before .before .before .before .before .before .before .before .before .before .before .before .before .before .before .before .before .before .bad-fifo .ensures) ∙ c .before .before .before .before .before .before .before .before .before .before .before .before .before .before .before .before .before .before .before .before .before .if1 .left,
+      sym (c .before .before .before .before .before .before .before .before .before .before .before .before .before .before .before .before .before .before .before .before .unused-bits .ensures) ∙ c .before .before .before .before .before .before .before .before .before .before .before .before .before .before .before .before .before .before .before .if2 .left,
+      sym (c .before .before .before .before .before .before .before .before .before .before .before .before .before .before .before .before .before .before .full-partial .ensures) ∙ c .before .before .before .before .before .before .before .before .before .before .before .before .before .before .before .before .before .if3 .left,
+      sym (c .before .before .before .before .before .before .before .before .before .before .before .before .before .before .before .before .excluded .ensures) ∙ c .before .before .before .before .before .before .before .before .before .before .before .before .before .before .before .if4 .left,
+      sym (c .before .before .before .before .before .before .before .before .before .before .before .before .before .before .bad-flags .ensures) ∙ c .before .before .before .before .before .before .before .before .before .before .before .before .before .if5 .left,
+      sym (c .before .before .before .before .before .before .before .before .before .before .before .before .active-disabled .ensures) ∙ c .before .before .before .before .before .before .before .before .before .before .before .if6 .left,
+      sym (c .before .before .before .before .before .before .before .before .before .before .partial-outside .ensures) ∙ c .before .before .before .before .before .before .before .before .before .if7 .left,
+      sym (c .before .before .before .before .before .before .before .before .bad-rate .ensures) ∙ c .before .before .before .before .before .before .before .if8 .left,
+      sym (c .before .before .before .before .before .before .above-samples .ensures) ∙ c .before .before .before .before .before .if9 .left,
+      sym (c .before .before .before .before .bad-place .ensures) ∙ c .before .before .before .if10 .left,
+      sym (c .before .before .bad-counts .ensures) ∙ c .before .if11 .left,
+      ← c .bad-depth .ensures,
       or-unit,
     )
 
@@ -50,4 +51,6 @@ malformed-spec =
     (λ c κs. search needs)
     (λ c. rw (← c .before .bad-place .ensures, c .if10 .taken) (simp or-true))
     (λ c κs. search needs)
-    returns-11)
+    (λ c. rw (← c .before .bad-counts .ensures, c .if11 .taken) (simp or-true))
+    (λ c κs. search needs)
+    returns-12)
