@@ -1,7 +1,10 @@
 // The C interface: what include/dcmi.h declares, on numbers and bytes. A device is an image of 55 words that the caller owns. Each function answers 0
 // or a refusal number for every input, has no `requires`, and states its whole result, the image, the memory and the outputs that it leaves, as one
 // equation with a definition of specs/; refused, all of them are as they were.
+ghost use mathlib.Core.List.{List};
 ghost use mathlib.Core.Path.{_≡_};
+ghost use Prim.Native.Nat.{ℕ};
+ghost use Rattle.rules.specs.declared.Core.{Core};
 ghost use Rattle.device.specs.Answers as device-answers;
 ghost use Rattle.output.specs.Answers as output-answers;
 ghost use Rattle.sampling.specs.Answers as sample-answers;
@@ -11,14 +14,15 @@ ghost use Rattle.dcmi.specs.Calls as call-rules;
 use device::Changed;
 use device::InterruptLine;
 use device::Reading;
-use device::Reply;
-use device::Sampled;
 use device_words::device_of;
 use device_words::encodes;
 use device_words::image_of;
 use output::Landing;
 use refusals::Outcome;
+use rules::Device;
 use sampling::Packing;
+use sampling::SampledCore;
+use sampling::sample_core;
 use trace::Item;
 use trace::Read;
 
@@ -227,14 +231,17 @@ fn value_word(packing: Packing) -> u64
     }
 }
 
-fn put_sampled(image: &mut [u32; 55], answer: &mut [u64; 4], after: Sampled) -> u32
-    ensures { λ r. ⌜ call-rules.sample-called r (now (image .exit)) (now (answer .exit)) ≡ call-rules.sample-stored (now (image .entry)) (now (answer .entry)) (device-answers.reply (after .reply)) (after .device) ⌝ }
+fn put_sampled(
+    image: &mut [u32; 55],
+    answer: &mut [u64; 4],
+    after: SampledCore,
+    slots: [u32; 32],
+) -> u32
+    ensures { λ r. ⌜ ((core : Core) (memory : List ℕ) → let a = sample-answers.sampled-core core after slots memory in call-rules.sample-called r (now (image .exit)) (now (answer .exit)) ≡ call-rules.sample-stored (now (image .entry)) (now (answer .entry)) (a .answer) (a .device)) ⌝ }
 {
-    let reply = after.reply;
-    match reply {
-        Reply::Answered(landing, packing) => {
-            let d = after.device;
-            *image = image_of(d);
+    match after {
+        SampledCore::Answered(core, landing, packing) => {
+            *image = image_of(Device { core, slots });
             let landed = landed_word(landing);
             let byte = byte_word(landing);
             let packed = packed_word(packing);
@@ -242,7 +249,7 @@ fn put_sampled(image: &mut [u32; 55], answer: &mut [u64; 4], after: Sampled) -> 
             *answer = [landed, byte, packed, value];
             return 0;
         }
-        Reply::Refused(refusal) => {
+        SampledCore::Refused(refusal) => {
             return refusal.number();
         }
     }
@@ -261,8 +268,10 @@ pub extern "C" fn dcmi_sample_slices(
 {
     let words = *image;
     if encodes(words) {
-        let after = device::sample(device_of(words), memory, start, sample);
-        return put_sampled(image, answer, after);
+        let d = device_of(words);
+        let mut slots = d.slots;
+        let after = sample_core(d.core, &mut slots, memory, start, sample);
+        return put_sampled(image, answer, after, slots);
     }
     1
 }

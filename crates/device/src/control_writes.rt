@@ -3,7 +3,6 @@ ghost use mathlib.Core.Path.{_≡_};
 ghost use Prim.Native.Nat.{_+_, _<_, _^_};
 ghost use Rattle.registers.specs.declared.Found.the-variants.{At};
 ghost use Rattle.rules.specs.RegisterCalls as register-rules;
-use crate::well_formed::is_open;
 use output::discard;
 use registers::Register;
 use registers::control;
@@ -14,6 +13,7 @@ use rules::Frame;
 use rules::Partial;
 use rules::Registers;
 use rules::Syncs;
+use well_formed::is_open;
 
 // ENABLE 0 to 1.
 fn enabling(s: Capture) -> Capture

@@ -9,7 +9,6 @@ ghost use Rattle.device.specs.Answers as device-answers;
 mod control_writes;
 mod register_calls;
 mod runs;
-mod well_formed;
 
 use output::Counts;
 use output::Landing;
@@ -33,6 +32,7 @@ use rules::Syncs;
 pub use runs::run;
 pub use runs::sample;
 use sampling::Packing;
+use well_formed::bad_depth;
 pub use well_formed::malformed;
 
 // The answer of a register read.
@@ -119,7 +119,7 @@ pub fn fresh() -> Device
 pub fn made(depth: u32) -> Changed
     ensures { λ r. ⌜ device-answers.changed r ≡ register-rules.made depth ⌝ }
 {
-    if well_formed::bad_depth(depth) {
+    if bad_depth(depth) {
         return Changed {
             device: fresh(),
             outcome: Outcome::Refused(Refusal::Depth),

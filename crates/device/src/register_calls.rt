@@ -7,7 +7,6 @@ use crate::Changed;
 use crate::InterruptLine;
 use crate::Reading;
 use crate::control_writes::write_at;
-use crate::well_formed::malformed;
 use capture::syncs::blanks;
 use refusals::Outcome;
 use refusals::Refusal;
@@ -16,6 +15,7 @@ use registers::Found;
 use registers::Register;
 use registers::control;
 use rules::Device;
+use well_formed::malformed;
 
 fn number_if(t: bool, n: u32) -> u32
     ensures { λ r. ⌜ r ≡ register-rules.number-if t n ⌝ }

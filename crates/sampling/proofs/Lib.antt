@@ -1,3 +1,4 @@
 pub mod Ready
 pub mod Noted
 pub mod Going
+pub mod AcceptedRuns

@@ -1,6 +1,8 @@
 -- The paper's values of each case of rule 9's answer (document 01, "One sample"), and what a sample or some samples leave by value and in lent places, together.
 use mathlib.Core.List.{List}
 use Prim.Native.Nat.{ℕ}
+use Rattle.refusals.specs.Refusals.{refused, answered}
+use Rattle.refusals.specs.Table.{number}
 use Rattle.output.specs.Answers.{landing}
 use Rattle.rules.specs.declared.Core.{Core}
 use Rattle.rules.specs.declared.Device.{Device}
@@ -8,7 +10,8 @@ use Rattle.rules.specs.Run as run-rules
 use Rattle.sampling.specs.declared.Packing.{Packing}
 use Rattle.sampling.specs.declared.Packing.the-variants as packing-cases
 use Rattle.sampling.specs.declared.Completed.{Completed}
-use Rattle.sampling.specs.declared.Sampled.{Sampled}
+use Rattle.sampling.specs.declared.SampledCore.{SampledCore}
+use Rattle.sampling.specs.declared.SampledCore.the-variants as core-cases
 use Rattle.sampling.specs.Notes.{Noted}
 
 -- No word was completed (`complete`: none was full), one was, with its value (`after-word`: it is held), or one was lost (`after-word`).
@@ -31,6 +34,8 @@ ran d buffer = record { device = d; buffer = buffer }
 abbrev pub noted : Core → List ℕ → List ℕ → List ℕ → List ℕ → Noted
 noted c slots buffer landings words = record { device = device c slots; buffer = buffer; landings = landings; words = words }
 
--- A device and the frame buffer after one sample, with its two answers.
-abbrev pub sampled : Sampled → List ℕ → run-rules.Stepped
-sampled s buffer = record { device = s .device; buffer = buffer; landing = landing (s .landing); packed = packing (s .packing) }
+-- One sample over a core and its slots, with its two answers, or a refusal: then core and slots are as they were.
+abbrev pub sampled-core : Core → SampledCore → List ℕ → List ℕ → run-rules.SampleResult
+sampled-core before (core-cases.Answered core l p) slots memory =
+    record { answer = answered (record { landing = landing l; packed = packing p }); device = device core slots; memory = memory }
+sampled-core before (core-cases.Refused e) slots memory = record { answer = refused (number e); device = device before slots; memory = memory }

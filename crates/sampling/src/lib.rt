@@ -18,12 +18,13 @@ ghost use Rattle.sampling.specs.Notes as note-rules;
 
 mod full_word;
 mod notes;
+mod single;
 
 use crate::full_word::complete;
 use crate::notes::note_landing;
 use crate::notes::note_packing;
-use crate::notes::noted_landing;
-use crate::notes::noted_packing;
+pub use crate::single::refusal_of;
+pub use crate::single::sample_core;
 use output::Granted;
 use output::Landing;
 use output::Output;
@@ -31,6 +32,7 @@ use output::SLOTS;
 use output::count_sample;
 use output::grant;
 use output::no_landing;
+use refusals::Refusal;
 use registers::control;
 use rules::Capture;
 use rules::Core;
@@ -50,11 +52,11 @@ pub struct Completed {
     pub core: Core,
 }
 
-// The device after one sample, with its two answers, the landing as a byte of the frame buffer.
-pub struct Sampled {
-    pub device: Device,
-    pub landing: Landing,
-    pub packing: Packing,
+// One sample over a core and lent slots: the core after it, where a word landed, as a byte of the lent memory, and what became of the sample's own word; or a refusal, which
+// has no core: so the compiler need not keep one (docs/SPEED.md).
+pub enum SampledCore {
+    Answered(Core, Landing, Packing),
+    Refused(Refusal),
 }
 
 // Rule 1, by the sample's bus grant and ENABLE.
@@ -137,22 +139,4 @@ pub fn run(d: Device, buffer: &mut [u8], samples: &[u32]) -> Device
         samples,
     );
     Device { core, slots }
-}
-
-// One sample over a device by value, with its two answers.
-pub fn sample(d: Device, buffer: &mut [u8], w: u32) -> Sampled
-    requires { ⌜ malformed d ≡ false ⌝ }
-    requires { ⌜ d .core .output .counts .samples + 1 < 2 ^ 32 ⌝ }
-    ensures { λ r. ⌜ sample-answers.sampled r (now (buffer .exit)) ≡ run-rules.step d (now (buffer .entry)) w ⌝ }
-{
-    let one = [w];
-    let mut slots = d.slots;
-    let mut landings = [0; 2];
-    let mut words = [0; 2];
-    let core = steps(d.core, &mut slots, buffer, &mut landings, &mut words, &one);
-    Sampled {
-        device: Device { core, slots },
-        landing: noted_landing(landings),
-        packing: noted_packing(words),
-    }
 }

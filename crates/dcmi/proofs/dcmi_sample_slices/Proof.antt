@@ -8,7 +8,10 @@ use Rattle.dcmi.proofs.dcmi_sample_slices.Tie as tie
 
 returns : tie.Need-returns
 unfolding sample
-returns c = sampled (c .before .before .before .before .before .before .before .before .before .before .before .before .args .image .now) (c .before .before .before .before .before .before .before .before .before .before .before .before .args .answer .now) _ (c .before .before .before .before .before .sample .result) (c .put-sampled .ensures) (c .before .before .before .before .before .sample .ensures) ∙ rw (c .before .before .before .before .before .before .before .device-of .ensures, ← c .before .before .before .before .before .before .before .before .before .encodes .ensures, c .before .before .before .before .before .before .before .before .if1 .taken)
+returns c =
+    let a = c .before .before .before .before .before .before .before .before .before .before .before .before .before .before .args in
+    sampled (a .image .now) (a .answer .now) _ _ _ (c .before .before .before .before .before .sample-core .result) (c .put-sampled .ensures _ _) (c .before .before .before .before .before .sample-core .ensures) ∙
+    rw (c .before .before .before .before .before .before .before .before .before .device-of .ensures, ← c .before .before .before .before .before .before .before .before .before .before .before .encodes .ensures, c .before .before .before .before .before .before .before .before .before .before .if1 .taken)
 
 returns-2 : tie.Need-returns-2
 unfolding sample

@@ -4,17 +4,18 @@ use Rattle.dcmi.proofs.put_sampled.Statement.{statement}
 use Rattle.dcmi.proofs.put_sampled.Tie as tie
 
 returns : tie.Need-returns
-returns c = rw (
-  c .before .value-word .ensures,
-  c .before .before .packed-word .ensures,
-  c .before .before .before .byte-word .ensures,
-  c .before .before .before .before .landed-word .ensures,
-  c .before .before .before .before .before .image-of .ensures,
-  c .before .before .before .before .before .before .before .before .reply .given .1,
-)
+returns c = λ core memory.
+    rw (
+      c .before .value-word .ensures,
+      c .before .before .packed-word .ensures,
+      c .before .before .before .byte-word .ensures,
+      c .before .before .before .before .landed-word .ensures,
+      c .before .before .before .before .before .image-of .ensures,
+      c .before .before .before .before .before .before .before .after .given .1,
+    )
 
 returns-2 : tie.Need-returns-2
-returns-2 c = rw (c .number .ensures, c .before .before .reply2 .given .1)
+returns-2 c = λ core memory. rw (c .number .ensures, c .before .before .after2 .given .1)
 
 pub put-sampled-spec : {M : Type 1} → statement M
 put-sampled-spec =

@@ -6,7 +6,7 @@ use mathlib.Core.Path.{sym, ap, _∙_}
 use native.Mathlib.Omega.{arith}
 use Prim.Native.Nat.{_+_, _≤_}
 use Rattle.refusals.specs.Table.{outcome}
-use Rattle.device.proofs.AcceptedRuns.{tail-part, put-tail}
+use Rattle.sampling.proofs.AcceptedRuns.{tail-part, put-tail}
 use Rattle.rules.proofs.WellFormed.{facts}
 use Rattle.rules.specs.Run.{Ran, run, run-refusal}
 use Rattle.trace.specs.Reading.{samples-of}

@@ -1,57 +1,9 @@
 -- `device::runs::run_refusal` meets its contract. Assumes nothing.
 use borrow.Author.Needs.{needs}
-use borrow.Author.Tests.{le-ltb, lt-ltb}
 use Rattle.rules.specs.Run.{run-refusal}
 use Rattle.device.proofs.runs.run_refusal.Statement.{statement}
 use Rattle.device.proofs.runs.run_refusal.Tie as tie
 
-returns-3 : tie.Need-returns-3
-unfolding run-refusal
-returns-3 c =
-    rw (
-      ← c .before .before .before .before .malformed .ensures,
-      c .before .before .before .if1 .left,
-      le-ltb _ _ (c .before .before .if2 .left),
-      ← c .before .any-bad .ensures,
-      c .if3 .taken,
-    )
-
-returns-4 : tie.Need-returns-4
-unfolding run-refusal
-returns-4 c =
-    rw (
-      ← c .before .before .before .before .before .before .malformed .ensures,
-      c .before .before .before .before .before .if1 .left,
-      le-ltb _ _ (c .before .before .before .before .if2 .left),
-      ← c .before .before .before .any-bad .ensures,
-      c .before .before .if3 .left,
-      ← c .before .too-many .ensures,
-      c .if4 .taken,
-    )
-
-returns-5 : tie.Need-returns-5
-unfolding run-refusal
-returns-5 c =
-    rw (
-      ← c .before .before .before .before .before .before .malformed .ensures,
-      c .before .before .before .before .before .if1 .left,
-      le-ltb _ _ (c .before .before .before .before .if2 .left),
-      ← c .before .before .before .any-bad .ensures,
-      c .before .before .if3 .left,
-      ← c .before .too-many .ensures,
-      c .if4 .left,
-    )
-
 pub run-refusal-spec : {M : Type 1} → statement M
 unfolding run-refusal
-run-refusal-spec =
-    tie.close
-    (tie.spec
-    (λ c κs. search needs)
-    (λ c. rw (← c .before .malformed .ensures, c .if1 .taken))
-    (λ c. rw (← c .before .before .malformed .ensures, c .before .if1 .left, lt-ltb _ _ (c .if2 .taken)))
-    (λ c κs. search needs)
-    returns-3
-    (λ c κs. search needs)
-    returns-4
-    returns-5)
+run-refusal-spec = tie.close (tie.spec (λ c κs. search needs) (λ c κs. search needs) (λ c. rw (c .refusal-of .ensures, c .before .malformed .ensures)))

@@ -1,0 +1,12 @@
+-- `well_formed::bad_place` meets its contract. Assumes nothing.
+use mathlib.Core.Path.{refl}
+use Rattle.output.specs.WellFormed.{bad-place}
+use Rattle.well_formed.proofs.bad_place.Statement.{statement}
+use Rattle.well_formed.proofs.bad_place.Tie as tie
+
+pub bad-place-spec : {M : Type 1} → statement M
+unfolding bad-place
+bad-place-spec =
+    tie.close
+    (tie.spec
+    (λ c. refl))
