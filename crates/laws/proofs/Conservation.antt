@@ -25,7 +25,7 @@ unfolding after-all
 calls-keep P keeps d [] h = h
 calls-keep P keeps d (c ∷ cs) h = calls-keep P keeps (after d c) cs (keeps d c h)
 
--- No accepted call from reset makes a malformed device.
+-- No accepted call makes a malformed device of one that was made.
 pub never-malformed : (depth : ℕ) → bad-depth depth ≡ false → (cs : List Call) → malformed (reached depth cs) ≡ false
 never-malformed depth sound cs = calls-keep (λ d. malformed d ≡ false) call-keeps _ cs (fresh-well-formed depth sound)
 

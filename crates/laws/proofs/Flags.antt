@@ -1,4 +1,4 @@
--- ERR never rises: after every list of calls from reset bit 2 of RIS is 0.
+-- ERR never rises: after every list of calls on a device of any depth bit 2 of RIS is 0.
 -- The idea: no sample changes ERR; of the register writes ICR alone changes RIS, and it only clears. Assumes nothing.
 use mathlib.Core.Bool.{false}
 use mathlib.Core.List.{List, [], _∷_}

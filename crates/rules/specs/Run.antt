@@ -37,7 +37,7 @@ unfoldable pub after-word : Fate → ℕ → Capture → OutputState → Complet
 after-word Held v s x = record { device = device s x; packed = completed v }
 after-word Lost v s x = record { device = device (lose-frame s) (discard 1 x); packed = lost }
 
--- Rule 9: with fewer than four held a full word is held, with four there is an overrun.
+-- Rule 9, W9: with fewer held than the depth a full word is held, with as many there is an overrun.
 unfoldable pub full-word : ℕ → Capture → OutputState → Completed
 full-word v s x = after-word (offer v x .fate) v s (offer v x .state)
 
