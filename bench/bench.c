@@ -1,8 +1,10 @@
 /* The cost of a sample: the library through the C header, and the plain C model of tests/c, on the same traces.
- * usage: bench lib|one|file|model|none|nofile WIDTH CROP OVERRUN ROWS [TIMES [DEPTH WAITING]]
- * one gives the samples one at a time; none only makes the trace, nofile makes it and writes its file: what lib and model, and what file, do besides running.
- * WIDTH is 8, 10, 12 or 14; CROP and OVERRUN are 0 or 1; ROWS is the number of rows of 660 pixel clocks, two samples a clock. DEPTH is the FIFO's, four
- * where none is named; WAITING is how many words wait in it, at most the depth and only with CROP 0; 0 stands for the reference trace. */
+ * usage: bench lib|one|file|little|model|none|nofile|trace WIDTH CROP OVERRUN ROWS [TIMES [DEPTH WAITING [SAMPLES]]]
+ * one gives the samples one at a time; file runs the trace's file, little over as much memory as the frame printer has. none only makes the trace, nofile
+ * makes it and writes its file: what lib, one and model, and what file and little, do besides running. trace prints the file.
+ * WIDTH is 8, 10, 12 or 14; CROP and OVERRUN are 0 or 1; ROWS is the number of rows of a picture, of 660 pixel clocks, two samples a clock. DEPTH is the
+ * FIFO's, four where none is named; WAITING is how many words wait in it, at most the depth and only with CROP 0; 0 stands for the reference trace.
+ * SAMPLES is how many there are, one picture after the other; those of one picture where none is named. */
 #include <stdio.h>
 #include <stdlib.h>
 #include <string.h>
@@ -11,19 +13,19 @@
 #include "dcmi.h"
 #include "model.h"
 
-enum { CLOCKS = 660, COLUMNS = 640, MOST_ROWS = 2048, LARGEST_FILE = 16384 };
+enum { CLOCKS = 660, COLUMNS = 640, MOST_SAMPLES = 10000000, LITTLE = 16384 };
 
-static uint32_t samples[2 * CLOCKS * MOST_ROWS];
-static uint8_t memory[4 * COLUMNS * MOST_ROWS], file[8 + 5 * 255 + 3 * LARGEST_FILE];
+static uint32_t samples[MOST_SAMPLES];
+static uint8_t memory[MOST_SAMPLES], file[10 + 5 * 255 + 3 * MOST_SAMPLES];
 
-/* The middle rows, all but ten, and the first 640 clocks of each are not blanked; both polarities are 1; two samples a clock with the same pins and
- * data; a grant at every fourth sample, or none. With words waiting there are others: none until so many are held, then one with each sample
+/* The middle rows of a picture, all but ten, and the first 640 clocks of each are not blanked; both polarities are 1; two samples a clock with the same
+ * pins and data; a grant at every fourth sample, or none. With words waiting there are others: none until so many are held, then one with each sample
  * that completes a word. */
-static size_t make(unsigned rows, int overrun, unsigned width, unsigned waiting)
+static void make(size_t count, unsigned rows, int overrun, unsigned width, unsigned waiting)
 {
     size_t n = 0, pixels = 0, a_word = width == 8 ? 4 : 2;
     uint32_t random = 12345;
-    for (unsigned row = 0; row < rows; row++)
+    for (unsigned row = 0; n < count; row = row + 1 == rows ? 0 : row + 1)
         for (unsigned clock = 0; clock < CLOCKS; clock++) {
             random = random * 1664525u + 1013904223u;
             uint32_t pins = random >> 18;
@@ -34,10 +36,9 @@ static size_t make(unsigned rows, int overrun, unsigned width, unsigned waiting)
             if (!(pins >> 14))
                 pixels++;
             int completes = !(pins >> 14) && pixels % a_word == 0 && pixels / a_word > waiting;
-            for (uint32_t level = 0; level < 2; level++, n++)
+            for (uint32_t level = 0; level < 2 && n < count; level++, n++)
                 samples[n] = pins | level << 16 | (!overrun && (waiting ? completes && level : n % 4 == 3) ? 1u << 17 : 0);
         }
-    return n;
 }
 
 static double seconds(void)
@@ -50,17 +51,17 @@ static double seconds(void)
 int main(int count, char **words)
 {
     if (count < 6 || count == 8)
-        return fprintf(stderr, "usage: bench lib|one|file|model|none|nofile WIDTH CROP OVERRUN ROWS [TIMES [DEPTH WAITING]]\n"), 2;
+        return fprintf(stderr, "usage: bench lib|one|file|little|model|none|nofile|trace WIDTH CROP OVERRUN ROWS [TIMES [DEPTH WAITING [SAMPLES]]]\n"), 2;
     unsigned width = (unsigned)atoi(words[2]), rows = (unsigned)atoi(words[5]), times = count > 6 ? (unsigned)atoi(words[6]) : 1;
     unsigned depth = count > 8 ? (unsigned)atoi(words[7]) : 4, waiting = count > 8 ? (unsigned)atoi(words[8]) : 0;
+    size_t n = count > 9 ? (size_t)atol(words[9]) : (size_t)2 * CLOCKS * rows;
     int crop = atoi(words[3]), overrun = atoi(words[4]);
-    if (rows > MOST_ROWS || width < 8 || width > 14 || waiting > depth || (waiting && crop))
+    if (rows < 11 || n > MOST_SAMPLES || width < 8 || width > 14 || waiting > depth || (waiting && crop))
         return 2;
     uint32_t cr = 0x40E1u | (width - 8) / 2 << 10 | (crop ? 4u : 0), start = 100u << 16 | 100, size = 199u << 16 | 299;
-    size_t n = make(rows, overrun, width, waiting);
-    int one = !strcmp(words[1], "one"), filed = !strcmp(words[1], "file") || !strcmp(words[1], "nofile");
-    if (filed && n > LARGEST_FILE)
-        n = LARGEST_FILE;
+    make(n, rows, overrun, width, waiting);
+    int one = !strcmp(words[1], "one"), little = !strcmp(words[1], "little"), run = little || !strcmp(words[1], "file");
+    int trace = !strcmp(words[1], "trace"), filed = run || trace || !strcmp(words[1], "nofile");
 
     dcmi_writes writes = {crop ? 3 : 1, {DCMI_CR}, {cr}};
     if (crop) {
@@ -71,6 +72,8 @@ int main(int count, char **words)
     size_t length = 0;
     if (filed && dcmi_trace_write(&writes, samples, n, file, sizeof file, &length))
         return 1;
+    if (trace)
+        return fwrite(file, 1, length, stdout) != length;
 
     unsigned landed = 0, held = 0;
     double best = 1e9;
@@ -98,10 +101,10 @@ int main(int count, char **words)
                 if (dcmi_sample(&d, memory, sizeof memory, 0, samples[i], &answer))
                     return 1;
             landed = d.word[DCMI_W_LANDED], held = d.word[DCMI_W_HELD];
-        } else if (!strcmp(words[1], "file")) {
+        } else if (run) {
             dcmi_device d;
-            if (depth == 4 ? dcmi_run_file(&d, file, length, memory, sizeof memory, 0)
-                           : dcmi_run_file_depth(&d, depth, file, length, memory, sizeof memory, 0))
+            size_t room = little ? LITTLE : sizeof memory;
+            if (depth == 4 ? dcmi_run_file(&d, file, length, memory, room, 0) : dcmi_run_file_depth(&d, depth, file, length, memory, room, 0))
                 return 1;
             landed = d.word[DCMI_W_LANDED], held = d.word[DCMI_W_HELD];
         }

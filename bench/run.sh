@@ -1,27 +1,40 @@
 #!/usr/bin/env bash
-# The table of docs/SPEED.md: instructions and time a sample, of dcmi_run, dcmi_run_file, dcmi_sample and the model of tests/c. Takes about a minute; no test.
+# The tables of docs/SPEED.md: instructions and time a sample, of dcmi_run, dcmi_run_file, dcmi_sample and the model of tests/c; then of dcmi_run_file and
+# the frame printer by the length of the trace. Takes about a minute and a half; no test.
 set -eu
 cd "$(dirname "$0")/.."
 out=target/bench
 mkdir -p "$out"
 rt staticlib dcmi >"$out/staticlib.log" 2>&1
+rt check frame_printer >"$out/frame_printer.log" 2>&1
+printer=target/bin/frame_printer
 gcc -std=c11 -O2 -Iinclude -Itests/c bench/bench.c tests/c/model.c target/staticlib/libdcmi.a -o "$out/bench"
+gcc -std=c11 -O2 -Iinclude -Itests/c tests/c/many_samples.c tests/c/child.c tests/c/printed.c tests/c/inputs.c tests/c/model.c -o "$out/many_samples"
 
-# bench TIMES WHICH WIDTH CROP OVERRUN ROWS DEPTH WAITING
-bench() { $under "$out/bench" "$2" "$3" "$4" "$5" "$6" "$1" "$7" "$8"; }
+# bench TIMES WHICH WIDTH CROP OVERRUN ROWS DEPTH WAITING [SAMPLES]
+bench() {
+    local times=$1 which=$2 width=$3 crop=$4 overrun=$5 rows=$6
+    shift 6
+    $under "$out/bench" "$which" "$width" "$crop" "$overrun" "$rows" "$times" "$@"
+}
 under=
-counted() { under='valgrind --tool=callgrind --callgrind-out-file=/dev/null' bench 1 "$@" 2>&1 | sed -n 's/.*Collected : //p'; }
-# instructions a sample: the run's, less those of making the trace, and of writing its file
-cost() {
+callgrind='valgrind --tool=callgrind --callgrind-out-file=/dev/null'
+collected() { sed -n 's/.*Collected : //p'; }
+declare -A before # what making a trace takes, and writing its file: counted once
+counted() { under=$callgrind bench 1 "$@" 2>&1 | collected; }
+# Sets cost, instructions a sample: the run's, less those of making the trace, and of writing its file
+count_cost() {
     local which=$1 none=none
-    [ "$which" = file ] && none=nofile
+    case $which in file | little) none=nofile ;; esac
     shift
-    local samples with without
+    local samples with
     samples=$(bench 1 "$which" "$@" | sed 's/ samples.*//')
     with=$(counted "$which" "$@")
-    without=$(counted "$none" "$@")
-    awk -v a="$with" -v b="$without" -v n="$samples" 'BEGIN { printf "%.1f", (a - b) / n }'
+    [ -n "${before[$none $*]:-}" ] || before[$none $*]=$(counted "$none" "$@")
+    cost=$(a_sample "$with" "${before[$none $*]}" "$samples")
 }
+# a_sample WITH WITHOUT SAMPLES
+a_sample() { awk -v a="$1" -v b="$2" -v n="$3" 'BEGIN { printf "%.1f", (a - b) / n }'; }
 took() { bench 20 "$@" | sed 's/.* held, //; s/ ns.*//'; }
 
 echo '| bits | cropped | grants | rows | depth | words waiting | `dcmi_run`: instructions, ns | `dcmi_run_file` | model, C at -O2 |'
@@ -32,7 +45,12 @@ row() {
     [ "$2" = 1 ] && crop=yes
     [ "$3" = 1 ] && grants=none waiting=overrun
     [ "$6" != 0 ] && grants='one a word' waiting=$6
-    echo "| $1 | $crop | $grants | $4 | $5 | $waiting | $(cost lib "$@"), $(took lib "$@") | $(cost file "$@"), $(took file "$@") | $(cost model "$@"), $(took model "$@") |"
+    local line="| $1 | $crop | $grants | $4 | $5 | $waiting |" which
+    for which in lib file model; do
+        count_cost $which "$@"
+        line="$line $cost, $(took $which "$@") |"
+    done
+    echo "$line"
 }
 for width in 8 10 12 14; do row $width 0 0 490 4 0; done
 row 14 1 0 490 4 0
@@ -43,7 +61,27 @@ row 14 0 0 490 4 3
 row 14 0 0 490 32 0
 row 14 0 0 490 32 30
 echo
-sample() { echo "\`dcmi_sample\`, 14 bits, 490 rows, depth $1, $2 waiting: $(cost one 14 0 0 490 "$1" "$3") instructions a call, $(took one 14 0 0 490 "$1" "$3") ns."; }
+sample() {
+    count_cost one 14 0 0 490 "$1" "$3"
+    echo "\`dcmi_sample\`, 14 bits, 490 rows, depth $1, $2 waiting: $cost instructions a call, $(took one 14 0 0 490 "$1" "$3") ns."
+}
 sample 4 'at most 1 word' 0
 sample 4 '3 words' 3
 sample 32 '30 words' 30
+
+# by the length: pictures of 490 rows, 14 bits, one in four granted; the printer through a pipe, less what it takes for a file with the same write and no sample
+echo
+echo '| samples | `dcmi_run_file`, memory for all words | `dcmi_run_file`, memory of 16,384 bytes | frame printer, by parts |'
+echo '|---|---|---|---|'
+printed() { bench 1 trace 14 0 0 490 4 0 "$1" | $callgrind "$printer" 2>&1 >/dev/null | collected; }
+nothing=$(printed 0)
+for samples in 16385 646800 10000000; do
+    line="| $samples |"
+    for which in file little; do
+        count_cost $which 14 0 0 490 4 0 $samples
+        line="$line $cost |"
+    done
+    echo "$line $(a_sample "$(printed $samples)" "$nothing" $samples) |"
+done
+echo
+"$out/many_samples" "$printer" 10000000

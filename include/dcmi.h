@@ -30,9 +30,9 @@ enum {
     DCMI_SAMPLES = 8,      /* samples in all would pass 4,294,967,295 */
     DCMI_START = 9,        /* start byte above the memory length */
     DCMI_MARK = 10,        /* the file's mark is not FGT */
-    DCMI_VERSION = 11,     /* the file's version is not 1 */
-    DCMI_COUNT = 12,       /* sample count above 16,384 */
-    DCMI_LENGTH = 13,      /* fewer than 8 bytes, or length not as the header says */
+    DCMI_VERSION = 11,     /* the file's version is neither 1 nor 2 */
+    DCMI_COUNT = 12,       /* version 1 with more than 16,384 samples, version 2 with no more, or more than 4,294,967,295 given to the writer */
+    DCMI_LENGTH = 13,      /* fewer than 8 bytes, fewer than 10 in version 2, or length not as the header says */
     DCMI_WRITES = 14,      /* more than 255 writes given to the writer */
     DCMI_ROOM = 15,        /* the writer's output does not fit */
     DCMI_DEPTH = 18        /* depth 0 or above 32 where a device is made */
@@ -87,6 +87,16 @@ typedef struct dcmi_answer {
     uint64_t packed; /* DCMI_NOTHING, DCMI_COMPLETED or DCMI_LOST */
     uint64_t value;  /* the completed word; 0 if none was, or it was lost */
 } dcmi_answer;
+
+/* A trace file, version 1 or 2, all numbers little-endian:
+ *
+ *     bytes 0-2    FGT
+ *     bytes 3-4    the version
+ *     byte 5       the number of writes
+ *     bytes 6-7    the number of samples, version 1: at most 16,384
+ *     bytes 6-9    the number of samples, version 2: 16,385 to 4,294,967,295
+ *
+ * then each write, its offset (1 byte) and value (4), then each sample (3). The number of samples decides the version. */
 
 /* One item of a trace file. */
 enum { DCMI_END = 0, DCMI_WRITE = 1, DCMI_SAMPLE = 2 };
@@ -148,8 +158,9 @@ static inline uint32_t dcmi_run(dcmi_device *device, uint8_t *memory, size_t len
     return dcmi_run_slices(device, length ? memory : &none, length, start, count ? samples : &nothing, count);
 }
 
-/* A trace file on a fresh device with a FIFO of four words: its writes, then its samples as one run. *device is written only, and becomes the device
- * after the file. Refusals 13, 10, 11, 12, 13, the first refused write's number, 9, 7, 8 in order. */
+/* A trace file of either version on a fresh device with a FIFO of four words: its writes, then its samples as one run. *device is written only, and
+ * becomes the device after the file. Refusals 13 (below 8 bytes), 10, 11, 13 (version 2 below 10), 12, 13, the first refused write's number, 9, 7, 8 in
+ * order. */
 static inline uint32_t dcmi_run_file(dcmi_device *device, const uint8_t *file, size_t file_length, uint8_t *memory, size_t length, size_t start)
 {
     uint8_t none = 0;
@@ -166,8 +177,8 @@ static inline uint32_t dcmi_run_file_depth(dcmi_device *device, uint32_t depth, 
     return dcmi_run_file_depth_slices(device, depth, file_length ? file : &nothing, file_length, length ? memory : &none, length, start);
 }
 
-/* A trace file of some writes and samples into the lent buffer; its length into *written. Bytes of the buffer after it stay.
- * Refusals 14, 12, 7, 15 in order. */
+/* A trace file of some writes and samples into the lent buffer, version 1 up to 16,384 samples and version 2 above; its length into *written. Bytes of
+ * the buffer after it stay. Refusals 14, 12, 7, 15 in order. */
 static inline uint32_t dcmi_trace_write(const dcmi_writes *writes, const uint32_t *samples, size_t count, uint8_t *out, size_t length, size_t *written)
 {
     uint8_t none = 0;
@@ -176,7 +187,7 @@ static inline uint32_t dcmi_trace_write(const dcmi_writes *writes, const uint32_
 }
 
 /* The item at a place of a trace file, places numbered from 0: first the writes, then the samples; every further place is the end.
- * Refusals 13, 10, 11, 12, 13 in order, then 7 at a sample. */
+ * Refusals 13, 10, 11, 13, 12, 13 in order, as dcmi_run_file's, then 7 at a sample. */
 static inline uint32_t dcmi_trace_item(const uint8_t *file, size_t length, size_t place, dcmi_item *item)
 {
     uint8_t none = 0;

@@ -21,5 +21,5 @@ done
 cmp -s samples/trace_t.fgt crates/frame_printer/stdin || fail "samples/trace_t.fgt is not the paper's file"
 echo "The frame printer: the ice bath reads 2731 at twelve bits and 683 at ten."
 
-gcc -std=c11 -O1 -Wall -Wextra -pedantic -Werror -Iinclude -Itests/c tests/c/printer.c tests/c/inputs.c tests/c/model.c -o "$out/printer" || fail "compiling tests/c/printer.c"
+gcc -std=c11 -O1 -Wall -Wextra -pedantic -Werror -Iinclude -Itests/c tests/c/printer.c tests/c/printed.c tests/c/inputs.c tests/c/model.c -o "$out/printer" || fail "compiling tests/c/printer.c"
 "$out/printer" "$printer" "$out" || fail "the comparison (alone: $out/printer $printer $out CASE)"

@@ -155,7 +155,7 @@ void checked_start(const char *name)
     guard_make(&g_memory, MOST_MEMORY);
     guard_make(&g_samples, 4 * MOST_SAMPLES);
     guard_make(&g_file, MOST_FILE);
-    guard_make(&g_out, MOST_MEMORY);
+    guard_make(&g_out, MOST_FILE);
     guard_make(&g_output, 64);
     guard_make(&g_writes, sizeof(dcmi_writes));
     guard_make(&g_offsets, 255);
@@ -536,7 +536,7 @@ uint32_t check_run_file_depth(uint32_t depth, const uint8_t *file, size_t file_l
     return check_file(RUN_FILE_DEPTH, depth, file, file_length, start);
 }
 
-static uint8_t want_out[MOST_MEMORY];
+static uint8_t want_out[MOST_FILE];
 static const uint8_t *last_file;
 static size_t last_length;
 
@@ -565,14 +565,15 @@ static uint32_t call_writer(uint32_t *samples, uint8_t *out, size_t *written)
     return got;
 }
 
-uint32_t check_trace_write(const dcmi_writes *writes, const uint32_t *samples, size_t count, size_t length)
+/* `readable` samples may be looked at. */
+static uint32_t check_writer(const dcmi_writes *writes, const uint32_t *samples, bool readable, size_t count, size_t length)
 {
     begin(TRACE_WRITE);
     now.writes = writes;
-    now.samples = samples;
+    now.samples = readable ? samples : NULL;
     now.count = count;
     now.length = length;
-    const bool far_samples = count > MOST_SAMPLES, far_out = length > MOST_MEMORY;
+    const bool far_samples = count > MOST_SAMPLES, far_out = length > MOST_FILE;
     const size_t compared = far_out ? 8192 : length;
     size_t want_written;
     size_t *written = lend_output(&g_output, &want_written, sizeof want_written);
@@ -591,6 +592,21 @@ uint32_t check_trace_write(const dcmi_writes *writes, const uint32_t *samples, s
         last_length = want_written;
     }
     return finish(want, got);
+}
+
+uint32_t check_trace_write(const dcmi_writes *writes, const uint32_t *samples, size_t count, size_t length)
+{
+    return check_writer(writes, samples, true, count, length);
+}
+
+uint32_t check_trace_write_unread(const dcmi_writes *writes, size_t count, size_t length, bool *missing)
+{
+    uint32_t *nowhere = mmap(NULL, 4 * count, PROT_NONE, MAP_PRIVATE | MAP_ANONYMOUS | MAP_NORESERVE, -1, 0);
+    *missing = nowhere == MAP_FAILED;
+    if (*missing) return 0;
+    const uint32_t answer = check_writer(writes, nowhere, false, count, length);
+    munmap(nowhere, 4 * count);
+    return answer;
 }
 
 uint32_t check_trace_item(const uint8_t *file, size_t length, size_t place, dcmi_item *item)

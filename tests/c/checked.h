@@ -10,9 +10,9 @@
 #include "dcmi.h"
 
 enum {
-    MOST_MEMORY = 1 << 17,       /* bytes of lent memory, of a file, of the writer's buffer */
-    MOST_FILE = 1 << 18,
-    MOST_SAMPLES = 1 << 17,      /* samples of one call */
+    MOST_MEMORY = 1 << 20,       /* bytes of lent memory */
+    MOST_FILE = 1 << 21,         /* bytes of a file, and of the writer's buffer */
+    MOST_SAMPLES = 1 << 20,      /* samples of one call */
 };
 
 /* How buffers are lent during a seed. */
@@ -52,6 +52,8 @@ uint32_t check_run(size_t start, const uint32_t *samples, size_t count);
 uint32_t check_run_file(const uint8_t *file, size_t file_length, size_t start);
 uint32_t check_run_file_depth(uint32_t depth, const uint8_t *file, size_t file_length, size_t start);
 uint32_t check_trace_write(const dcmi_writes *writes, const uint32_t *samples, size_t count, size_t length);
+/* The writer with so many samples in pages that may not even be read; `missing` if the system has not so many. */
+uint32_t check_trace_write_unread(const dcmi_writes *writes, size_t count, size_t length, bool *missing);
 uint32_t check_trace_item(const uint8_t *file, size_t length, size_t place, dcmi_item *item);
 
 /* What the last accepted check_trace_write wrote. */

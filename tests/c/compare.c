@@ -364,6 +364,61 @@ static void paper_file(void)
     expect_register("RIS after ICR", DCMI_RIS, 0x18);
 }
 
+/* W7. A header alone, answered alike by the three calls that read a file. */
+static void expect_header(const char *what, uint32_t want, const uint8_t *header, size_t length)
+{
+    expect(what, want, check_run_file(header, length, 0));
+    expect(what, want, check_run_file_depth(1, header, length, 0));
+    expect(what, want, check_trace_item(header, length, 0, NULL));
+}
+
+static void paper_headers(void)
+{
+    static const uint8_t none[12] = { 'F', 'G', 'T', 2 }, last[12] = { 'F', 'G', 'T', 2, 0, 0, 0x00, 0x40 };
+    static const uint8_t first[12] = { 'F', 'G', 'T', 2, 0, 0, 0x01, 0x40 }, wraps[12] = { 'F', 'G', 'T', 2, 0, 0, 0x56, 0x55, 0x55, 0x55 };
+    static const uint8_t more[12] = { 'F', 'G', 'T', 1, 0, 0, 0x01, 0x40 }, third[12] = { 'F', 'G', 'T', 3 }, high[12] = { 'F', 'G', 'T', 2, 1 };
+    static const uint8_t high_1[12] = { 'F', 'G', 'T', 1, 1 }, mark[12] = { 'F', 'G', 't', 2 };
+    lend_memory(16);
+    for (size_t length = 0; length < 8; length++) expect_header("W7, below 8 bytes", 13, mark, length);
+    expect_header("W7, mark, 8 bytes", 10, mark, 8);
+    expect_header("W7, version 3", 11, third, 8);
+    expect_header("W7, version 258", 11, high, 9);
+    expect_header("W7, version 257", 11, high_1, 8);
+    expect_header("W7, version 2, 8 bytes", 13, none, 8);
+    expect_header("W7, version 2, 9 bytes", 13, none, 9);
+    expect_header("W7, version 2, no sample", 12, none, 10);
+    expect_header("W7, version 2, 16,384 samples, 9 bytes", 13, last, 9);
+    expect_header("W7, version 2, 16,384 samples", 12, last, 10);
+    expect_header("W7, version 2, 16,385 samples", 13, first, 10);
+    expect_header("W7, version 1, 16,385 samples", 12, more, 8);
+    expect_header("W7, length modulo 2^32", 13, wraps, 12);
+}
+
+/* W7. 16,384 samples are version 1, 16,385 version 2; what was written is accepted, and in the other version it is not. */
+static void paper_versions(void)
+{
+    static const uint8_t head[2][10] = { { 'F', 'G', 'T', 1, 0, 1, 0x00, 0x40, 0x00, 0xE3 }, { 'F', 'G', 'T', 2, 0, 1, 0x01, 0x40, 0x00, 0x00 } };
+    lend_memory(16);
+    for (unsigned i = 0; i < 2; i++) {
+        const size_t length = i == 0 ? 8 + 5 + 3 * 16384 : 10 + 5 + 3 * 16385;
+        size_t written = 0;
+        t.writes = (dcmi_writes){ .count = 1, .offset = { DCMI_CR }, .value = { 0x48E3 } };
+        t.count = 16384 + i;
+        for (size_t k = 0; k < t.count; k++) t.samples[k] = trace_t[k % 8];
+        expect("W7, a byte too few", 15, check_trace_write(&t.writes, t.samples, t.count, length - 1));
+        expect("W7, written", 0, check_trace_write(&t.writes, t.samples, t.count, length));
+        const uint8_t *bytes = written_file(&written);
+        expect("W7, the length", length, written);
+        expect("W7, the header", 0, (uint64_t)(memcmp(bytes, head[i], 10) != 0));
+        memcpy(file, bytes, length);
+        expect("W7, run", 0, check_run_file(file, length, 0));
+        expect("W7, samples", t.count, device()[DCMI_W_SAMPLES]);
+        expect_word("W7, memory", 0, 0x091B0AAB);
+        expect("W7, the last sample", 0, check_trace_item(file, length, t.count, NULL));
+        expect("W7, in the other version", 12, check_run_file(file, trace_file_as(&t, 2 - i, file), 0));
+    }
+}
+
 static void paper_examples(void)
 {
     check_reset();
@@ -390,6 +445,8 @@ static void paper_examples(void)
     paper_refusals();
     paper_memory();
     paper_file();
+    paper_headers();
+    paper_versions();
 }
 
 /* ---- pieces ---- */
@@ -832,6 +889,36 @@ static bool far_landing(void)
     return true;
 }
 
+/* The writer, given more samples than it can count; the first may be bad. */
+static void too_many_samples(void)
+{
+    const size_t above = (size_t)1 << 32;
+    uint32_t *samples = (uint32_t *)(void *)far_memory();
+    samples[0] = chance(1, 2) ? 0x40000 : 0;
+    t.writes.count = chance(1, 4) ? 256 : t.writes.count;
+    check_trace_write(&t.writes, samples, above + below(4), below(100));
+    check_trace_write(&t.writes, samples, above + t.count, MOST_FILE);
+}
+
+/* W7. A file of more than 4 GiB; all but the first few of its samples and the last are 0. */
+static void far_version_2(void)
+{
+    const size_t above = (size_t)1 << 32, count = above / 3 + below(1 << 20);
+    uint8_t *bytes = far_memory();
+    trace_valid(&t, 1);
+    const size_t header = trace_file_as(&t, 2, bytes) - 3, length = header + 3 * count;
+    for (unsigned i = 0; i < 4; i++) bytes[6 + i] = (uint8_t)(count >> 8 * i);
+    bytes[length - 3] = 1;
+    for (size_t place = 0; place < t.writes.count + 2; place++) check_trace_item(bytes, length, place, NULL);
+    for (unsigned n = 4; n; n--) check_trace_item(bytes, length, t.writes.count + count - 2 + below(4), NULL);
+    check_trace_item(bytes, length, below((uint32_t)count), NULL);
+    check_trace_item(bytes, length - above, 0, NULL);
+    check_trace_item(bytes, length + 1, 0, NULL);
+    run_file(bytes, length - 1, any_start());
+    run_file(bytes, length - above, any_start());
+    check_run_file_depth(any_depth(), bytes, length, bad_start());
+}
+
 /* A file, a count of samples and an output buffer that are right only without their upper bits. */
 static void far_file(void)
 {
@@ -839,12 +926,12 @@ static void far_file(void)
     const size_t length = trace_file(&t, file), above = (size_t)1 << 32;
     lend_far_memory(2 * above);
     check_trace_write(&t.writes, t.samples, t.count, above + below(40));
-    check_trace_write(&t.writes, (const uint32_t *)(const void *)far_memory(), above - below(4), MOST_MEMORY);
-    check_trace_write(&t.writes, (const uint32_t *)(const void *)far_memory(), above + t.count, MOST_MEMORY);
-    memcpy(far_memory(), file, length);
     lend_memory(any_length());
+    too_many_samples();
+    memcpy(far_memory(), file, length);
     run_file(far_memory(), above + length, 0);
     check_trace_item(far_memory(), above + length, below(8), NULL);
+    far_version_2();
 }
 
 static void limits_kind(void)
@@ -898,9 +985,10 @@ static void rewrite(const uint8_t *bytes, size_t length)
 }
 
 /* Each byte of the header with each value; two of them at once. */
-static void damaged_header(size_t length)
+static void damaged_header(unsigned version, size_t length)
 {
-    for (unsigned at = 0; at < 8; at++) {
+    const unsigned bytes = (unsigned)header_length(version);
+    for (unsigned at = 0; at < bytes; at++) {
         const uint8_t right = file[at];
         for (unsigned value = 0; value < 256; value++) {
             file[at] = (uint8_t)value;
@@ -909,13 +997,13 @@ static void damaged_header(size_t length)
         file[at] = right;
     }
     for (unsigned n = 100; n; n--) {
-        uint8_t header[8];
-        memcpy(header, file, 8);
-        const uint32_t one = below(8), other = below(8);
+        uint8_t header[10];
+        memcpy(header, file, bytes);
+        const uint32_t one = below(bytes), other = below(bytes);
         file[one] ^= (uint8_t)(1 << below(8));
         file[other] = (uint8_t)random_u32();
         ask(file, chance(1, 2) ? length : below((uint32_t)length + 4));
-        memcpy(file, header, 8);
+        memcpy(file, header, bytes);
     }
 }
 
@@ -972,33 +1060,60 @@ static void fill_writes(size_t count)
     t.writes.count = count;
 }
 
+/* A file of many samples, accepted or not, and what damage makes of it. */
+static void large_file(unsigned version)
+{
+    const size_t length = trace_file_as(&t, version, file), items = t.writes.count + t.count;
+    lend_memory(chance(1, 2) ? 16384 : chance(1, 2) ? any_length() : between(257, 70000));
+    run_file(file, length, any_start());
+    for (unsigned wrong = 1; wrong <= 3; wrong++) {
+        ask(file, length + wrong);
+        ask(file, length - wrong);
+    }
+    for (unsigned n = 12; n; n--) check_trace_item(file, length, any_place(items), NULL);
+    check_trace_item(file, length, items - 1, NULL);
+    const uint8_t last = file[length - 1];
+    file[length - 1] |= (uint8_t)(1 << between(2, 7)); /* the last sample */
+    ask(file, length);
+    check_trace_item(file, length, items - 1, NULL);
+    if (chance(1, 2)) file[length - 1] = last;
+    file[below(3)] ^= 0x20;
+    ask(file, length);
+    check_trace_item(file, length, items - 1, NULL);
+    memcpy(file, "FGT", 3);
+    file[4] = (uint8_t)random_u32();
+    ask(file, length);
+    check_trace_item(file, length, items - 1, NULL);
+    file[4] = 0;
+    file[3] ^= 3; /* the other version */
+    ask(file, length);
+    ask(file, version == 1 ? length + 2 : length - 2);
+    file[3] ^= 3;
+    if (version == 2) { /* the upper bytes of the count */
+        file[between(8, 9)] ^= (uint8_t)(1 << below(8));
+        ask(file, length);
+        trace_file_as(&t, version, file);
+    }
+    if (t.writes.count) file[header_length(version) + 5 * below((uint32_t)t.writes.count)] |= 0x40; /* a write's offset */
+    ask(file, length);
+}
+
 static void large_files(void)
 {
-    static const size_t counts[] = { 16383, 16384, 16384, 16384, 16385, 16386, 32768, 65535 };
-    for (unsigned i = 0; i < 8; i++) {
-        trace_valid(&t, counts[i]);
-        if (i >= 2) fill_writes(255);
-        const size_t length = trace_file(&t, file);
-        lend_memory(chance(1, 2) ? 16384 : chance(1, 2) ? any_length() : between(257, 70000));
-        run_file(file, length, any_start());
-        ask(file, length + 1);
-        ask(file, length - 1);
-        if (i == 2) rewrite(file, length);
-        for (unsigned n = 12; n; n--) check_trace_item(file, length, any_place(255 + counts[i]), NULL);
-        file[length - 1] |= (uint8_t)(1 << between(2, 7)); /* the last sample */
-        ask(file, length);
-        check_trace_item(file, length, t.writes.count + t.count - 1, NULL);
-        file[below(3)] ^= 0x20;
-        ask(file, length);
-        check_trace_item(file, length, t.writes.count + t.count - 1, NULL);
-        memcpy(file, "FGT", 3);
-        file[4] = (uint8_t)random_u32();
-        ask(file, length);
-        check_trace_item(file, length, t.writes.count + t.count - 1, NULL);
-        file[4] = 0;
-        if (t.writes.count) file[8] |= 0x40; /* the first write's offset */
-        ask(file, length);
+    static const struct { unsigned version; uint32_t count; } files[] = {
+        { 1, 16383 }, { 1, 16384 }, { 1, 16384 }, { 1, 16384 }, { 1, 16385 }, { 1, 16386 }, { 1, 32768 }, { 1, 65535 },
+        { 2, 16383 }, { 2, 16384 }, { 2, 16385 }, { 2, 16385 }, { 2, 16386 },
+    };
+    for (unsigned i = 0; i < sizeof files / sizeof *files; i++) {
+        trace_valid(&t, files[i].count);
+        if (files[i].version == 1 ? i >= 2 : i != 10) fill_writes(255);
+        if (i == 10) t.writes.count = 0;
+        large_file(files[i].version);
     }
+    trace_valid(&t, chance(1, 4) ? between(65536, 65540) : between(16387, 24000));
+    large_file(2);
+    trace_valid(&t, 16384 + below(2));
+    rewrite(file, trace_file(&t, file));
 }
 
 /* Files that overrun at every depth, each at some. */
@@ -1012,6 +1127,15 @@ static void full_files(void)
             check_run_file_depth(any_depth(), file, length, start);
         }
     }
+}
+
+/* Version 2 with few samples: refused 12, and otherwise where it is damaged. */
+static void small_version_2(void)
+{
+    const size_t length = trace_file_as(&t, 2, file);
+    ask(file, length);
+    if (chance(1, 2)) damaged_header(2, length);
+    else wrong_length(length);
 }
 
 static void files_kind(void)
@@ -1028,8 +1152,13 @@ static void files_kind(void)
         run_file(file, length, any_start());
         every_item(length);
         rewrite(file, length);
-        if (chance(1, 6)) damaged_header(length);
+        if (chance(1, 6)) damaged_header(1, length);
         if (chance(1, 4)) wrong_length(length);
+        if (chance(1, 4)) small_version_2();
+        for (unsigned n = 20; n; n--) {
+            const size_t bytes = header_only(file);
+            ask(file, bytes);
+        }
         for (unsigned n = 20; n; n--) {
             trace_valid(&t, below(chance(1, 8) ? 400 : 30));
             run_file(file, trace_file(&t, file), any_start());
@@ -1049,15 +1178,15 @@ static size_t any_writes_count(void)
 
 static size_t any_sample_count(void)
 {
-    static const size_t counts[] = { 16383, 16384, 16384, 16385, 16386, 32768, 65535, 65536, 65537, 81920, MOST_SAMPLES };
-    return chance(23, 24) ? below(20) : counts[below(11)];
+    static const size_t counts[] = { 16383, 16384, 16384, 16384, 16385, 16385, 16385, 16386, 16387, 20000, 32768, 65536, 65537, TRACE_SAMPLES };
+    return chance(23, 24) ? below(20) : counts[below(14)];
 }
 
 static size_t any_buffer(size_t needed)
 {
     switch (below(8)) {
     case 0: return 0;
-    case 1: return needed - 1;
+    case 1: return needed - between(1, 3);
     case 2: return needed + 1;
     case 3: return needed + below(200);
     case 4: return below((uint32_t)needed);
@@ -1073,7 +1202,7 @@ static void read_back(void)
     memcpy(file, bytes, length);
     if (t.count < 100) every_item(length);
     run_file(file, length, any_start());
-    if (t.count < 100 || chance(1, 8)) rewrite(file, length);
+    if (t.count < 100 || (t.count < 20000 && chance(1, 8))) rewrite(file, length);
 }
 
 static void writer_kind(void)
@@ -1087,13 +1216,13 @@ static void writer_kind(void)
         if (chance(1, 2)) trace_valid(&t, 0);
         else t.writes.count = any_writes_count();
         t.count = any_sample_count();
-        scene_samples(&s, t.samples, t.count > 16384 ? 100 : t.count);
+        scene_samples(&s, t.samples, t.count);
         if (t.count && chance(1, 4)) {
             const size_t at = chance(1, 2) ? t.count - 1 : below((uint32_t)t.count);
             t.samples[at] = chance(1, 2) ? 0x3FFFF : damaged(t.samples[at]);
         }
-        const size_t writes = t.writes.count > 255 ? 255 : t.writes.count, samples = t.count > 16384 ? 16384 : t.count;
-        if (!check_trace_write(&t.writes, t.samples, t.count, any_buffer(8 + 5 * writes + 3 * samples))) read_back();
+        const size_t writes = t.writes.count > 255 ? 255 : t.writes.count, header = header_length(t.count > 16384 ? 2 : 1);
+        if (!check_trace_write(&t.writes, t.samples, t.count, any_buffer(header + 5 * writes + 3 * t.count))) read_back();
     }
 }
 

@@ -384,17 +384,68 @@ static uint8_t *number_out(uint8_t *at, uint32_t value, unsigned bytes)
     return at;
 }
 
-size_t trace_file(const trace *t, uint8_t *file)
+size_t header_length(unsigned version) { return version == 1 ? 8 : 10; }
+
+static uint8_t *header_out(uint8_t *at, unsigned version, size_t writes, size_t samples)
 {
-    uint8_t *at = file;
     at = number_out(at, 0x544746, 3); /* FGT */
-    at = number_out(at, 1, 2);
-    at = number_out(at, (uint32_t)t->writes.count, 1);
-    at = number_out(at, (uint32_t)t->count, 2);
+    at = number_out(at, version, 2);
+    at = number_out(at, (uint32_t)writes, 1);
+    return number_out(at, (uint32_t)samples, version == 1 ? 2 : 4);
+}
+
+size_t trace_file_as(const trace *t, unsigned version, uint8_t *file)
+{
+    uint8_t *at = header_out(file, version, t->writes.count, t->count);
     for (size_t i = 0; i < t->writes.count; i++) {
         at = number_out(at, t->writes.offset[i], 1);
         at = number_out(at, t->writes.value[i], 4);
     }
     for (size_t i = 0; i < t->count; i++) at = number_out(at, t->samples[i], 3);
     return (size_t)(at - file);
+}
+
+size_t trace_file(const trace *t, uint8_t *file) { return trace_file_as(t, t->count > 16384 ? 2 : 1, file); }
+
+size_t header_only(uint8_t *file)
+{
+    const size_t writes = below(3), items = below(6), fixed = header_length(2) + 5 * writes;
+    const uint32_t times = between(1, 2);
+    const uint64_t above = (uint64_t)times << (16 + 8 * below(3)); /* with 3 - times added, a multiple of 3 */
+    uint64_t samples = random_u32() >> below(32);
+    size_t length = fixed + below(20);
+    switch (below(3)) {
+    case 0: /* right without the upper bits of the length */
+        samples = (above + 3 - times) / 3 + items;
+        length = fixed + 3 - times + 3 * items;
+        break;
+    case 1: /* right without those of the number */
+        samples = above + items;
+        length = fixed + 3 * items;
+        break;
+    default: break;
+    }
+    random_bytes(file, 64);
+    header_out(file, 2, writes, samples);
+    if (chance(1, 4)) file[below(10)] = (uint8_t)random_u32();
+    if (chance(1, 8)) file[4] = 1;
+    return chance(1, 4) ? below(12) : length;
+}
+
+/* ---- a full picture ---- */
+
+uint32_t picture_sample(picture *p)
+{
+    if (p->level == 0) p->random = p->random * 1664525u + 1013904223u;
+    uint32_t sample = p->random >> 18 | p->level << 16;
+    if (p->clock >= PICTURE_COLUMNS) sample |= 1u << 14;
+    if (p->row < 5 || p->row >= 5 + PICTURE_LINES) sample |= 1u << 15;
+    if (p->made++ % 4 == 3) sample |= 1u << 17;
+    p->level ^= 1;
+    if (p->level) return sample;
+    if (++p->clock == 660) {
+        p->clock = 0;
+        if (++p->row == 490) p->row = 0;
+    }
+    return sample;
 }

@@ -70,7 +70,24 @@ typedef struct trace {
 void trace_valid(trace *t, size_t count);
 /* One of a scene_full, nothing cropped. */
 void trace_full(trace *t, size_t count);
-/* Its file, whatever it holds; returns the length. */
+/* Its file, whatever it holds, in the version that its number of samples asks for, or in the one named; returns the length. Version 1 has no more than
+ * the low 16 bits of that number. */
 size_t trace_file(const trace *t, uint8_t *file);
+size_t trace_file_as(const trace *t, unsigned version, uint8_t *file);
+/* The bytes of a header. */
+size_t header_length(unsigned version);
+/* A header of version 2 and a few bytes: often damaged, or with a length that is right only without the upper bits of the number of samples or of the
+ * whole length. Returns the length, at most 64 bytes. */
+size_t header_only(uint8_t *file);
+
+/* The samples of a camera with a picture of 640 by 480 and all polarities 1, one after the other: rows of 660 pixel clocks, of which the first 640 are
+ * not blanked; 490 rows a picture, the first and the last five blanked; two samples a clock, a grant at every fourth. It begins with `random` set and the
+ * rest 0; from 12345 on it is the benchmark's trace. */
+enum { PICTURE_COLUMNS = 640, PICTURE_LINES = 480, PICTURE_SAMPLES = 490 * 660 * 2 };
+typedef struct picture {
+    uint32_t row, clock, level, random;
+    uint64_t made;
+} picture;
+uint32_t picture_sample(picture *p);
 
 #endif

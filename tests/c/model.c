@@ -385,9 +385,16 @@ uint32_t model_run(camera *c, uint8_t *memory, size_t length, size_t start, cons
     return 0;
 }
 
-/* ---- Trace file, version 1 ---- */
+/* ---- Trace file, versions 1 and 2 ---- */
 
-enum { HEADER = 8, WRITE_BYTES = 5, SAMPLE_BYTES = 3, MOST_WRITES = 255, MOST_SAMPLES = 16384 };
+/* W7: version 2 has two bytes more for the number of samples. Lengths and places have 64 bits: the longest file has 12,884,903,170 bytes. */
+enum { WRITE_BYTES = 5, SAMPLE_BYTES = 3, MOST_WRITES = 255, MOST_SAMPLES_1 = 16384 };
+
+/* What a header says. */
+typedef struct layout {
+    uint32_t version;
+    uint64_t header, writes, samples; /* the header's bytes; how many of each */
+} layout;
 
 static uint32_t number(const uint8_t *bytes, unsigned count)
 {
@@ -396,48 +403,57 @@ static uint32_t number(const uint8_t *bytes, unsigned count)
     return value;
 }
 
-static size_t file_size(size_t writes, size_t samples)
-{
-    return HEADER + WRITE_BYTES * writes + SAMPLE_BYTES * samples;
-}
+static unsigned count_bytes(uint32_t version) { return version == 1 ? 2 : 4; }
+static uint64_t header_bytes(uint32_t version) { return 6 + count_bytes(version); }
 
-static const uint8_t *write_at(const uint8_t *file, size_t i) { return file + file_size(i, 0); }
-static uint32_t sample_at(const uint8_t *file, size_t writes, size_t i) { return number(file + file_size(writes, i), SAMPLE_BYTES); }
+/* Where items begin, and how long the file is. */
+static uint64_t write_place(const layout *l, uint64_t i) { return l->header + WRITE_BYTES * i; }
+static uint64_t sample_place(const layout *l, uint64_t i) { return write_place(l, l->writes) + SAMPLE_BYTES * i; }
+static uint64_t file_bytes(const layout *l) { return sample_place(l, l->samples); }
 
-/* The form checks on opening: 13 (below 8 bytes), 10, 11, 12, 13. */
-static uint32_t header_refusal(const uint8_t *file, size_t length, size_t *writes, size_t *samples)
+static const uint8_t *write_at(const uint8_t *file, const layout *l, uint64_t i) { return file + write_place(l, i); }
+static uint32_t sample_at(const uint8_t *file, const layout *l, uint64_t i) { return number(file + sample_place(l, i), SAMPLE_BYTES); }
+
+/* W7: version 1 up to 16,384 samples, version 2 above. */
+static uint32_t version_for(uint64_t samples) { return samples <= MOST_SAMPLES_1 ? 1 : 2; }
+
+/* The form checks on opening: 13 (below 8 bytes), 10, 11, W7: 13 (version 2 below 10), 12, 13 (length). */
+static uint32_t header_refusal(const uint8_t *file, uint64_t length, layout *l)
 {
-    if (length < HEADER) return 13;
+    if (length < 8) return 13;
     if (file[0] != 'F' || file[1] != 'G' || file[2] != 'T') return 10;
-    if (number(file + 3, 2) != 1) return 11;
-    *writes = file[5];
-    *samples = number(file + 6, 2);
-    if (*samples > MOST_SAMPLES) return 12;
-    if (length != file_size(*writes, *samples)) return 13;
+    l->version = number(file + 3, 2);
+    if (l->version != 1 && l->version != 2) return 11;
+    l->header = header_bytes(l->version);
+    if (length < l->header) return 13;
+    l->writes = file[5];
+    l->samples = number(file + 6, count_bytes(l->version));
+    if (l->version != version_for(l->samples)) return 12;
+    if (length != file_bytes(l)) return 13;
     return 0;
 }
 
-/* W9: 18 first. Then the form checks, the first refused write's number, 9, 7, on a fresh device; 8 cannot come of so few samples. */
+/* W9: 18 first. Then the form checks, the first refused write's number, 9, 7, on a fresh device; 8 cannot come, because the count fits 32 bits. */
 uint32_t model_run_file_depth(camera *c, uint32_t depth, const uint8_t *file, size_t file_length, uint8_t *memory, size_t length, size_t start)
 {
-    size_t writes, samples;
+    layout l;
     camera fresh;
     outcome unused;
     uint32_t refusal = model_reset_depth(&fresh, depth);
     if (refusal) return refusal;
-    refusal = header_refusal(file, file_length, &writes, &samples);
+    refusal = header_refusal(file, file_length, &l);
     if (refusal) return refusal;
-    for (size_t i = 0; i < writes; i++) {
-        const uint8_t *at = write_at(file, i);
+    for (uint64_t i = 0; i < l.writes; i++) {
+        const uint8_t *at = write_at(file, &l, i);
         refusal = write_register(&fresh, at[0], number(at + 1, 4));
         if (refusal) return refusal;
     }
     if (start > length) return 9;
-    for (size_t i = 0; i < samples; i++) {
-        const uint32_t sample = sample_at(file, writes, i);
+    for (uint64_t i = 0; i < l.samples; i++) {
+        const uint32_t sample = sample_at(file, &l, i);
         if (bad_sample(&sample, 1)) return 7;
     }
-    for (size_t i = 0; i < samples; i++) step(&fresh, memory, length, start, sample_at(file, writes, i), &unused);
+    for (uint64_t i = 0; i < l.samples; i++) step(&fresh, memory, length, start, sample_at(file, &l, i), &unused);
     *c = fresh;
     return 0;
 }
@@ -447,40 +463,42 @@ uint32_t model_run_file(camera *c, const uint8_t *file, size_t file_length, uint
     return model_run_file_depth(c, USUAL_DEPTH, file, file_length, memory, length, start);
 }
 
-/* The writer: 14, 12, 7, 15. Bytes after what it writes stay. */
+/* The writer: 14, 12, 7, 15. W7: it chooses the version; 12 is beyond what version 2 can count. Bytes after what it writes stay. */
 uint32_t model_trace_write(size_t writes, const uint8_t *offsets, const uint32_t *values, const uint32_t *samples, size_t count, uint8_t *out,
                            size_t length, size_t *written)
 {
     if (writes > MOST_WRITES) return 14;
-    if (count > MOST_SAMPLES) return 12;
+    if (count > UINT32_MAX) return 12;
     if (bad_sample(samples, count)) return 7;
-    if (file_size(writes, count) > length) return 15;
+    const uint32_t version = version_for(count);
+    const layout l = { version, header_bytes(version), writes, count };
+    if (file_bytes(&l) > length) return 15;
     out[0] = 'F';
     out[1] = 'G';
     out[2] = 'T';
-    uint8_t *at = put(out + 3, 1, 2);
+    uint8_t *at = put(out + 3, version, 2);
     at = put(at, (uint32_t)writes, 1);
-    at = put(at, (uint32_t)count, 2);
+    at = put(at, (uint32_t)count, count_bytes(version));
     for (size_t i = 0; i < writes; i++) {
         at = put(at, offsets[i], 1);
         at = put(at, values[i], 4);
     }
     for (size_t i = 0; i < count; i++) at = put(at, samples[i], SAMPLE_BYTES);
-    *written = file_size(writes, count);
+    *written = file_bytes(&l);
     return 0;
 }
 
 /* The reader: one write or sample at a time, 7 at a sample. */
 uint32_t model_trace_item(const uint8_t *file, size_t length, size_t place, trace_item *item)
 {
-    size_t writes, samples;
-    const uint32_t refusal = header_refusal(file, length, &writes, &samples);
+    layout l;
+    const uint32_t refusal = header_refusal(file, length, &l);
     if (refusal) return refusal;
-    if (place < writes) {
-        const uint8_t *at = write_at(file, place);
+    if (place < l.writes) {
+        const uint8_t *at = write_at(file, &l, place);
         *item = (trace_item){ ITEM_WRITE, at[0], number(at + 1, 4), place + 1 };
-    } else if (place - writes < samples) {
-        const uint32_t sample = sample_at(file, writes, place - writes);
+    } else if (place - l.writes < l.samples) {
+        const uint32_t sample = sample_at(file, &l, place - l.writes);
         if (bad_sample(&sample, 1)) return 7;
         *item = (trace_item){ ITEM_SAMPLE, 0, sample, place + 1 };
     } else {

@@ -5,45 +5,26 @@
 #include <string.h>
 
 #include "inputs.h"
-#include "model.h"
+#include "printed.h"
 
-enum { LARGEST = 50435, MEMORY = 16384, CASES = 420, ROOM = 1 << 18 };
+enum { CASES = 540, KINDS = 9, ROOM = 1 << 18 };
 
 static uint8_t file[ROOM + 16];
-static char expected[1 << 17], printed[1 << 17];
+static char expected[MOST_PRINTED], printed[MOST_PRINTED];
 static trace made;
 
-/* What the paper's section says for an input. */
-static void expect(size_t length)
-{
-    static uint8_t memory[MEMORY];
-    camera c;
-    memset(memory, 0, sizeof memory);
-    uint32_t number = model_run_file(&c, file, length, memory, MEMORY, 0);
-    char *at = expected;
-    if (number) {
-        sprintf(at, "refused %u\n", (unsigned)number);
-        return;
-    }
-    at += sprintf(at, "samples %u\nwords %u\nheld %u\ndiscarded %u\nflags %02X\n", (unsigned)c.samples, (unsigned)c.landed, (unsigned)c.held,
-                  (unsigned)c.discarded, (unsigned)c.ris);
-    for (uint32_t k = 0; k < c.landed; k++) {
-        const uint8_t *b = memory + 4 * k;
-        at += sprintf(at, "%02X%02X%02X%02X\n", b[3], b[2], b[1], b[0]);
-    }
-}
-
-/* The input of a case: accepted files, damaged bytes, cut files, more bytes than the largest file has, nothing at all. */
+/* The input of a case: accepted files of both versions, damaged bytes, cut files, more bytes than the header says, nothing at all. */
 static size_t input(unsigned number)
 {
     random_seed(9000 + number);
     if (number == 0)
         return 0;
-    trace_valid(&made, number % 7 == 1 ? 16384 : below(400));
+    const unsigned kind = number % KINDS, long_trace = kind == 1 || kind == 7 || kind == 8 || chance(1, 8);
+    trace_valid(&made, long_trace ? 16384 + (kind == 1 ? below(2) : below(6000)) : below(400));
     size_t length = trace_file(&made, file);
-    switch (number % 7) {
+    switch (kind) {
     case 2: /* a damaged byte of the header */
-        file[below(8)] = (uint8_t)random_u32();
+        file[below(10)] = (uint8_t)random_u32();
         break;
     case 3: /* a damaged byte anywhere */
         file[below((uint32_t)length)] ^= (uint8_t)(1u << below(8));
@@ -51,9 +32,14 @@ static size_t input(unsigned number)
     case 4: /* cut */
         length = below((uint32_t)length + 1);
         break;
-    case 5: /* more bytes, up to far beyond the largest file */
+    case 5: /* more bytes, up to far beyond the file */
         random_bytes(file + length, ROOM - length);
         length += chance(1, 2) ? 1 : between(1, (uint32_t)(ROOM - length));
+        break;
+    case 8: /* in some version, damaged or not */
+        length = trace_file_as(&made, between(1, 2), file);
+        if (chance(1, 2))
+            file[below(10)] ^= (uint8_t)(1u << below(8));
         break;
     default:
         break;
@@ -78,7 +64,7 @@ static int compared(const char *program, const char *folder, unsigned number)
     if (f)
         fclose(f);
     printed[got] = 0;
-    expect(length);
+    printed_file(expected, file, length);
     if (got == strlen(expected) && memcmp(printed, expected, got) == 0)
         return 1;
     fprintf(stderr, "case %u, %zu bytes (alone: printer PROGRAM FOLDER %u): expected\n%.400s\nprinted\n%.400s\n", number, length, number, expected, printed);

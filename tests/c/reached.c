@@ -159,18 +159,26 @@ const char *const call_name[CALLS] = {
     X(M_PLACE, "malformed: place above landed, and nothing else") \
     X(M_EQUATION, "malformed: equation of counts, and nothing else") \
     X(M_DEPTH_HELD, "malformed: depth above 32 and as many held, and nothing else") \
-    X(FILE_SHORT, "file: fewer than 8 bytes") \
-    X(FILE_LENGTH, "file: length not as the header says") \
-    X(FILE_WRITE, "file: a write refused after an accepted one") \
-    X(FILE_RUN, "file: run") \
-    X(FILE_EMPTY, "file: run, no writes, no samples") \
-    X(FILE_FULL, "file: run, 255 writes, 16,384 samples") \
-    X(AT_WRITE, "item: a write") \
-    X(AT_SAMPLE, "item: a sample") \
-    X(AT_END, "item: the end") \
-    X(WRITER_EXACT, "writer: the output fills the buffer") \
-    X(WRITER_LONGER, "writer: bytes after the output stay") \
-    X(WRITER_FULL, "writer: 255 writes, 16,384 samples")
+    X(FILE_WRITE, "file: version 1, a write refused after an accepted one") \
+    X(FILE_WRITE_2, "W7: file: version 2, a write refused after an accepted one") \
+    X(AT_WRITE, "item: version 1, a write") \
+    X(AT_SAMPLE, "item: version 1, a sample") \
+    X(AT_END, "item: version 1, the end") \
+    X(AT_WRITE_2, "W7: item: version 2, a write") \
+    X(AT_SAMPLE_2, "W7: item: version 2, a sample") \
+    X(AT_LAST_2, "W7: item: version 2, the last sample") \
+    X(AT_END_2, "W7: item: version 2, the end") \
+    X(AT_FAR_2, "W7: item: a sample of a file above 4 GiB") \
+    X(WRITER_EXACT, "writer: version 1, the output fills the buffer") \
+    X(WRITER_LONGER, "writer: version 1, bytes after the output stay") \
+    X(WRITER_FULL, "writer: 255 writes, 16,384 samples") \
+    X(WRITER_FIRST_2, "W7: writer: version 2, 16,385 samples") \
+    X(WRITER_FULL_2, "W7: writer: version 2, 255 writes") \
+    X(WRITER_EXACT_2, "W7: writer: version 2, the output fills the buffer") \
+    X(WRITER_LONGER_2, "W7: writer: version 2, bytes after the output stay") \
+    X(WRITER_SHORT_2, "W7: writer: version 2 refused 15, a header of 8 bytes would fit") \
+    X(WRITER_LIMIT, "W7: writer: 4,294,967,296 samples refused 12") \
+    X(WRITER_LIMIT_LOW, "W7: writer: more refused 12, the low 32 bits are 16,384 or less")
 
 #define BRANCH_NAME(name, text) name,
 typedef enum { BRANCHES(BRANCH_NAME) BRANCH_COUNT } branch;
@@ -202,11 +210,43 @@ typedef enum { BRANCHES(BRANCH_NAME) BRANCH_COUNT } branch;
 typedef enum { TABLES(TABLE_NAME) TABLE_COUNT } table;
 #undef TABLE_NAME
 
+/* What is to be reached by each call that reads a file. */
+#define FILE_CASES(X) \
+    X(FILE_SHORT, "fewer than 8 bytes: 13") \
+    X(FILE_SHORT_8, "W7: version 2 of 8 bytes: 13") \
+    X(FILE_SHORT_9, "W7: version 2 of 9 bytes: 13") \
+    X(FILE_HEADER_2, "W7: version 2 of 10 bytes, the count above 16,384: 13") \
+    X(FILE_VERSION_0, "version 0: 11") \
+    X(FILE_VERSION_3, "W7: version 3: 11") \
+    X(FILE_VERSION_HIGH, "W7: version 257 or 258, whose low byte is 1 or 2: 11") \
+    X(FILE_MORE_1, "W7: version 1, 16,385 samples, all of them there: 12") \
+    X(FILE_FEWER_2, "W7: version 2, 16,384 samples, all of them there: 12") \
+    X(FILE_NONE_2, "W7: version 2, no sample, the length as it says: 12") \
+    X(FILE_LENGTH_1, "version 1, length not as the header says: 13") \
+    X(FILE_LENGTH_2, "W7: version 2, length not as the header says: 13") \
+    X(FILE_AS_1, "W7: version 2, length as of version 1: 13") \
+    X(FILE_AS_2, "W7: version 1, length as of version 2: 13") \
+    X(FILE_LOW_COUNT, "W7: version 2, length right for the count's low 16 bits: 13") \
+    X(FILE_WRAP, "W7: version 2, length right only modulo 2^32: 13") \
+    X(FILE_LAST_1, "version 1, 16,384 samples, accepted") \
+    X(FILE_FIRST_2, "W7: version 2, 16,385 samples, accepted") \
+    X(FILE_HIGH_2, "W7: version 2, more than 65,535 samples, accepted") \
+    X(FILE_EMPTY, "version 1, no writes, no samples, accepted") \
+    X(FILE_FULL_1, "version 1, 255 writes, 16,384 samples, accepted") \
+    X(FILE_BARE_2, "W7: version 2, no writes, accepted") \
+    X(FILE_FULL_2, "W7: version 2, 255 writes, accepted") \
+    X(FILE_BAD_2, "W7: version 2, a bad sample: 7")
+
+#define CASE_NAME(name, text) name,
+typedef enum { FILE_CASES(CASE_NAME) CASE_COUNT } file_case;
+#undef CASE_NAME
+
 enum { FIRST_FAULT = NO_LEVEL, FAULTS = M_EQUATION + 1 - NO_LEVEL };
 
-static uint64_t hits[BRANCH_COUNT], each[TABLE_COUNT][SLOTS + 1];
+static uint64_t hits[BRANCH_COUNT], each[TABLE_COUNT][SLOTS + 1], of_file[CALLS][CASE_COUNT];
 
 static inline void seen(bool holds, branch which) { hits[which] += holds; }
+static inline void seen_by(call_kind kind, bool holds, file_case which) { of_file[kind][which] += holds; }
 
 /* Only numbers from 1 to 32 are counted. */
 static inline void seen_at(bool holds, table which, uint32_t number)
@@ -580,53 +620,117 @@ static uint32_t number_at(const uint8_t *bytes, unsigned count)
     return value;
 }
 
-/* The writes of a file up to the refused one; how many are accepted. */
-static unsigned walk_writes(camera *c, const uint8_t *file)
+/* What the first bytes of a file say. A version that is neither 1 nor 2 is read as 1. */
+typedef struct heading {
+    bool whole;                       /* no byte of the header is missing */
+    uint32_t version;
+    uint64_t bytes, writes, samples;  /* of the header; how many of each */
+    uint64_t body, length;            /* where the samples begin; where they end */
+} heading;
+
+static heading read_header(const uint8_t *file, size_t length)
 {
-    for (unsigned i = 0; i < file[5]; i++) {
-        const uint8_t *at = file + 8 + 5 * i;
+    heading h = { .version = length < 5 ? 0 : number_at(file + 3, 2) };
+    h.bytes = h.version == 2 ? 10 : 8;
+    h.whole = length >= h.bytes;
+    if (!h.whole) return h;
+    h.writes = file[5];
+    h.samples = number_at(file + 6, h.version == 2 ? 4 : 2);
+    h.body = h.bytes + 5 * h.writes;
+    h.length = h.body + 3 * h.samples;
+    return h;
+}
+
+/* What every call that reads a file is to reach. */
+static void reached_form(const call *made)
+{
+    const call_kind kind = made->kind;
+    const uint32_t answer = made->answer;
+    const size_t length = made->length;
+    const heading h = read_header(made->file, length);
+    const bool one = h.version == 1, two = h.version == 2, long_header = length >= 10;
+    seen_by(kind, answer == 13 && length < 8, FILE_SHORT);
+    seen_by(kind, answer == 13 && two && length == 8, FILE_SHORT_8);
+    seen_by(kind, answer == 13 && two && length == 9, FILE_SHORT_9);
+    seen_by(kind, answer == 13 && two && length == 10, FILE_HEADER_2);
+    seen_by(kind, answer == 11 && h.version == 0, FILE_VERSION_0);
+    seen_by(kind, answer == 11 && h.version == 3, FILE_VERSION_3);
+    seen_by(kind, answer == 11 && (h.version == 257 || h.version == 258), FILE_VERSION_HIGH);
+    if (!h.whole) return;
+    seen_by(kind, answer == 12 && one && h.samples == 16385 && length == h.length, FILE_MORE_1);
+    seen_by(kind, answer == 12 && two && h.samples == 16384 && length == h.length, FILE_FEWER_2);
+    seen_by(kind, answer == 12 && two && h.samples == 0 && length == h.length, FILE_NONE_2);
+    seen_by(kind, answer == 13 && one, FILE_LENGTH_1);
+    seen_by(kind, answer == 13 && two, FILE_LENGTH_2);
+    seen_by(kind, answer == 13 && two && length == h.length - 2, FILE_AS_1);
+    seen_by(kind, answer == 13 && one && long_header && length == h.length + 2, FILE_AS_2);
+    seen_by(kind, answer == 13 && two && length == h.body + 3 * (h.samples & 0xFFFF), FILE_LOW_COUNT);
+    seen_by(kind, answer == 13 && two && length == (uint32_t)h.length, FILE_WRAP);
+    seen_by(kind, answer == 7 && two, FILE_BAD_2);
+    if (answer) return;
+    seen_by(kind, one && h.samples == 16384, FILE_LAST_1);
+    seen_by(kind, two && h.samples == 16385, FILE_FIRST_2);
+    seen_by(kind, two && h.samples > 65535, FILE_HIGH_2);
+    seen_by(kind, h.writes == 0 && h.samples == 0, FILE_EMPTY);
+    seen_by(kind, one && h.writes == 255 && h.samples == 16384, FILE_FULL_1);
+    seen_by(kind, two && h.writes == 0, FILE_BARE_2);
+    seen_by(kind, two && h.writes == 255, FILE_FULL_2);
+}
+
+/* The writes of a file up to the refused one; how many are accepted. */
+static uint64_t walk_writes(camera *c, const uint8_t *file, const heading *h)
+{
+    for (uint64_t i = 0; i < h->writes; i++) {
+        const uint8_t *at = file + h->bytes + 5 * i;
         const camera before = *c;
         if (model_write(c, at[0], number_at(at + 1, 4))) return i;
         reached_write(&before, at[0], c);
     }
-    return file[5];
+    return h->writes;
 }
 
 /* Whether the writes and samples of a file, one by one, come to the same device. */
 static bool reached_file(const call *made)
 {
-    seen(made->answer == 13 && made->length < 8, FILE_SHORT);
-    seen(made->answer == 13 && made->length >= 8, FILE_LENGTH);
+    reached_form(made);
     if (made->answer > 6) return true;
     camera c;
     model_reset_depth(&c, made->depth);
-    const unsigned writes = made->file[5], samples = number_at(made->file + 6, 2), accepted = walk_writes(&c, made->file);
-    seen(made->answer && accepted, FILE_WRITE);
-    if (made->answer) return accepted < writes;
-    for (unsigned i = 0; i < samples; i++) walk_sample(&c, made, number_at(made->file + 8 + 5 * writes + 3 * i, 3));
-    seen(true, FILE_RUN);
-    seen(writes == 0 && samples == 0, FILE_EMPTY);
-    seen(writes == 255 && samples == 16384, FILE_FULL);
+    const heading h = read_header(made->file, made->length);
+    const uint64_t accepted = walk_writes(&c, made->file, &h);
+    seen(made->answer && accepted, h.version == 2 ? FILE_WRITE_2 : FILE_WRITE);
+    if (made->answer) return accepted < h.writes;
+    for (uint64_t i = 0; i < h.samples; i++) walk_sample(&c, made, number_at(made->file + h.body + 3 * i, 3));
     seen_at(made->kind == RUN_FILE_DEPTH, T_FILE, made->depth);
     return walked_well(&c, made);
 }
 
 static void reached_item(const call *made)
 {
-    seen(made->answer == 13 && made->length < 8, FILE_SHORT);
-    seen(made->answer == 13 && made->length >= 8, FILE_LENGTH);
+    reached_form(made);
     if (made->answer) return;
-    seen(made->output == DCMI_WRITE, AT_WRITE);
-    seen(made->output == DCMI_SAMPLE, AT_SAMPLE);
-    seen(made->output == DCMI_END, AT_END);
+    const heading h = read_header(made->file, made->length);
+    const bool two = h.version == 2, sample = made->output == DCMI_SAMPLE;
+    seen(made->output == DCMI_WRITE, two ? AT_WRITE_2 : AT_WRITE);
+    seen(sample, two ? AT_SAMPLE_2 : AT_SAMPLE);
+    seen(made->output == DCMI_END, two ? AT_END_2 : AT_END);
+    seen(two && sample && made->place == h.writes + h.samples - 1, AT_LAST_2);
+    seen(two && sample && made->length > UINT32_MAX, AT_FAR_2);
 }
 
 static void reached_writer(const call *made)
 {
+    const size_t writes = made->writes->count, count = made->count;
+    const bool two = count > 16384;
+    seen(made->answer == 15 && two && made->length - (8 + 5 * writes + 3 * count) < 2, WRITER_SHORT_2);
+    seen(made->answer == 12 && count == (size_t)1 << 32, WRITER_LIMIT);
+    seen(made->answer == 12 && (uint32_t)count <= 16384, WRITER_LIMIT_LOW);
     if (made->answer) return;
-    seen(made->output == made->length, WRITER_EXACT);
-    seen(made->output < made->length, WRITER_LONGER);
-    seen(made->writes->count == 255 && made->count == 16384, WRITER_FULL);
+    seen(made->output == made->length, two ? WRITER_EXACT_2 : WRITER_EXACT);
+    seen(made->output < made->length, two ? WRITER_LONGER_2 : WRITER_LONGER);
+    seen(writes == 255 && count == 16384, WRITER_FULL);
+    seen(count == 16385, WRITER_FIRST_2);
+    seen(two && writes == 255, WRITER_FULL_2);
 }
 
 /* ---- the order of refusals ---- */
@@ -646,10 +750,10 @@ static const struct {
     [REARM] = { 1, { 1 }, { 0 } },
     [SAMPLE] = { 4, { 1, 9, 7, 8 }, { 0 } },
     [RUN] = { 4, { 1, 9, 7, 8 }, { 0 } },
-    [RUN_FILE] = { 8, { 13, 10, 11, 12, 13, 0, 9, 7 }, { 0xB8, 0, 0, 0, 0xA0 } },
-    [RUN_FILE_DEPTH] = { 9, { 18, 13, 10, 11, 12, 13, 0, 9, 7 }, { 0, 0x170, 0, 0, 0, 0x140 } },
+    [RUN_FILE] = { 9, { 13, 10, 11, 13, 12, 13, 0, 9, 7 }, { 0x178, 0, 0x8, 0x170, 0, 0x140 } },
+    [RUN_FILE_DEPTH] = { 10, { 18, 13, 10, 11, 13, 12, 13, 0, 9, 7 }, { 0, 0x2F0, 0, 0x10, 0x2E0, 0, 0x280 } },
     [TRACE_WRITE] = { 4, { 14, 12, 7, 15 }, { 0 } },
-    [TRACE_ITEM] = { 6, { 13, 10, 11, 12, 13, 7 }, { 0x38, 0, 0, 0, 0x20 } },
+    [TRACE_ITEM] = { 7, { 13, 10, 11, 13, 12, 13, 7 }, { 0x78, 0, 0x8, 0x70, 0, 0x40 } },
 };
 
 static uint64_t answers[CALLS][REFUSAL_NUMBERS];
@@ -695,60 +799,68 @@ static uint32_t run_reasons(const call *made, bool malformed)
          | reason(made->before[DCMI_W_SAMPLES] + (uint64_t)count > UINT32_MAX, 3);
 }
 
-/* The first five reasons of a file; *body is where its samples begin if its length is as it says, else 0. */
-static uint32_t header_reasons(const call *made, size_t *body, size_t *count)
+/* More samples than this are not walked through: of those the first and the last are looked at. */
+enum { MANY = 1 << 20 };
+
+/* The first six reasons of a file. W7: the fourth is a version 2 header of which only eight or nine bytes are there. */
+static uint32_t header_reasons(const call *made, const heading *h)
 {
     const uint8_t *file = made->file;
     const size_t length = made->length;
-    *body = 0;
-    *count = length >= 8 ? number_at(file + 6, 2) : 0;
-    const size_t samples_at = length >= 8 ? 8 + 5u * file[5] : 0;
-    const bool as_said = length >= 8 && length == samples_at + 3 * *count;
-    if (as_said) *body = samples_at;
     return reason(length < 8, 0)
          | reason(length >= 3 && memcmp(file, "FGT", 3) != 0, 1)
-         | reason(length >= 5 && (file[3] != 1 || file[4] != 0), 2)
-         | reason(*count > 16384, 3)
-         | reason(length >= 8 && !as_said, 4);
+         | reason(length >= 5 && h->version != 1 && h->version != 2, 2)
+         | reason(length >= 8 && !h->whole, 3)
+         | reason(h->whole && (h->version == 2 ? h->samples <= 16384 : h->samples > 16384), 4)
+         | reason(h->whole && length != h->length, 5);
 }
 
-static bool bad_at(const uint8_t *file, size_t body, size_t i) { return file[body + 3 * i + 2] > 3; }
+static bool bad_at(const uint8_t *file, const heading *h, uint64_t i) { return file[h->body + 3 * i + 2] > 3; }
 
 /* Whether a write is refused on a fresh device; its depth makes no difference. */
-static bool refused_write(const uint8_t *file)
+static bool refused_write(const uint8_t *file, const heading *h)
 {
     camera c;
     model_reset(&c);
-    for (unsigned i = 0; i < file[5]; i++)
-        if (model_write(&c, file[8 + 5 * i], number_at(file + 9 + 5 * i, 4))) return true;
+    for (uint64_t i = 0; i < h->writes; i++) {
+        const uint8_t *at = file + h->bytes + 5 * i;
+        if (model_write(&c, at[0], number_at(at + 1, 4))) return true;
+    }
     return false;
 }
 
 static uint32_t file_reasons(const call *made)
 {
-    size_t body, count;
-    bool bad = false;
-    const uint32_t header = header_reasons(made, &body, &count);
-    for (size_t i = 0; body && i < count && !bad; i++) bad = bad_at(made->file, body, i);
-    return header | reason(body && refused_write(made->file), 5) | reason(made->start > made->memory_length, 6) | reason(bad, 7);
+    const heading h = read_header(made->file, made->length);
+    const bool as_said = h.whole && made->length == h.length;
+    bool bad = as_said && h.samples && bad_at(made->file, &h, h.samples - 1);
+    for (uint64_t i = 0; as_said && i < (h.samples <= MANY ? h.samples : 1) && !bad; i++) bad = bad_at(made->file, &h, i);
+    return header_reasons(made, &h) | reason(as_said && refused_write(made->file, &h), 6) | reason(made->start > made->memory_length, 7)
+         | reason(bad, 8);
 }
 
 static uint32_t item_reasons(const call *made)
 {
-    size_t body, count;
-    const uint32_t header = header_reasons(made, &body, &count);
-    const size_t writes = body ? made->file[5] : 0;
-    return header | reason(body && made->place >= writes && made->place - writes < count && bad_at(made->file, body, made->place - writes), 5);
+    const heading h = read_header(made->file, made->length);
+    const bool as_said = h.whole && made->length == h.length;
+    const bool sample = as_said && made->place >= h.writes && made->place - h.writes < h.samples;
+    return header_reasons(made, &h) | reason(sample && bad_at(made->file, &h, made->place - h.writes), 6);
 }
 
-/* Counts for which there are no arrays: nothing is looked at, and nothing fits. */
+static bool has_bad_far(const uint32_t *samples, size_t count)
+{
+    if (!samples) return false;
+    return count <= MANY ? has_bad(samples, count) : has_bad(samples, 1) || has_bad(samples + count - 1, 1);
+}
+
+/* Counts for which there are no arrays: nothing fits. */
 static uint32_t writer_reasons(const call *made)
 {
-    const size_t writes = made->writes->count, many = (size_t)1 << 17;
+    const size_t writes = made->writes->count, count = made->count, header = count > 16384 ? 10 : 8;
     return reason(writes > 255, 0)
-         | reason(made->count > 16384, 1)
-         | reason(made->count <= many && has_bad(made->samples, made->count), 2)
-         | reason(writes > many || made->count > many || 8 + 5 * writes + 3 * made->count > made->length, 3);
+         | reason(count > UINT32_MAX, 1)
+         | reason(has_bad_far(made->samples, count), 2)
+         | reason(writes > MANY || count > MANY || header + 5 * writes + 3 * count > made->length, 3);
 }
 
 /* W9: 18. */
@@ -956,8 +1068,27 @@ static bool tables_summary(void)
     return complete;
 }
 
+static bool files_summary(void)
+{
+#define CASE_TEXT(name, text) text,
+    static const char *const texts[CASE_COUNT] = { FILE_CASES(CASE_TEXT) };
+#undef CASE_TEXT
+    static const call_kind kinds[3] = { RUN_FILE, RUN_FILE_DEPTH, TRACE_ITEM };
+    bool complete = true;
+    printf("Reached with files, by %s, %s and %s:\n", call_name[RUN_FILE], call_name[RUN_FILE_DEPTH], call_name[TRACE_ITEM]);
+    for (unsigned i = 0; i < CASE_COUNT; i++) {
+        printf("  %-60s", texts[i]);
+        for (unsigned k = 0; k < 3; k++) {
+            printf(" %10" PRIu64 "%s", of_file[kinds[k]][i], of_file[kinds[k]][i] ? "" : " NEVER");
+            complete &= of_file[kinds[k]][i] != 0;
+        }
+        printf("\n");
+    }
+    return complete;
+}
+
 bool reached_summary(void)
 {
-    const bool answered = answers_summary(), ordered = orders_summary(), reached = branches_summary(), every = tables_summary();
-    return answered && ordered && reached && every;
+    const bool answered = answers_summary(), ordered = orders_summary(), reached = branches_summary(), by_file = files_summary(), every = tables_summary();
+    return answered && ordered && reached && by_file && every;
 }

@@ -25,7 +25,7 @@ typedef struct call {
     uint32_t depth;                /* of the device that is made; four where none is named */
     uint32_t offset, value;        /* of a register; the value is a sample too */
     size_t start, place;
-    const uint32_t *samples;
+    const uint32_t *samples;       /* a null pointer if they may not be read */
     const uint8_t *file;
     const dcmi_writes *writes;
     size_t count, length;          /* of the samples; of the file or the writer's buffer */

@@ -1,15 +1,12 @@
--- What the `else` of a `let .. else` knows: below the number of writes an item is a write; a stretch that is neither samples nor a refusal is the end.
+-- What the `else` of a `let .. else` knows: below the number of writes an item is a write.
 use mathlib.Core.List.{List, [], _∷_}
 use mathlib.Core.Path.{_≡_, refl, _∙_}
 use Prim.Native.Nat.{ℕ, _<_}
 use types.Run.{OneOf, miss}
 use denote.Enum.Declared.{tagOf}
 use Rattle.trace.proofs.Item as item-kinds
-use Rattle.trace.proofs.Stretch as stretch-kinds
 use Rattle.trace.specs.declared.Item.{Item}
 use Rattle.trace.specs.declared.Item.the-variants.{Write, Sample, End, Refused}
-use Rattle.trace.specs.declared.Stretch.{Stretch}
-use Rattle.trace.specs.declared.Stretch.the-variants as stretch-cases
 use Rattle.trace.specs.Answers as trace-answers
 use Rattle.trace.specs.Reading as reading
 use Rattle.trace.proofs.Walk.{clash, write-place}
@@ -22,8 +19,3 @@ a-write file place i h e k = go i k (e ∙ write-place file place h)
     go (Sample v) k e = clash cc
     go End k e = clash cc
     go (Refused v) k e = clash cc
-
-pub the-end : (s : Stretch) → OneOf (1 ∷ 2 ∷ []) (tagOf stretch-kinds.the-type s) → OneOf (0 ∷ 1 ∷ []) (tagOf stretch-kinds.the-type s) → s ≡ stretch-cases.End
-the-end (stretch-cases.Samples n) k l = absurd (miss (1 ∷ 2 ∷ []) 0 tt k)
-the-end stretch-cases.End k l = refl
-the-end (stretch-cases.Refused e) k l = absurd (miss (0 ∷ 1 ∷ []) 2 tt l)

@@ -1,12 +1,12 @@
 -- The samples of an accepted file, stretch by stretch: what is left leads to the same end as all of them.
 use mathlib.Core.Bool.{Bool, true, false, cond}
-use mathlib.Core.List.{List, [], _∷_}
+use mathlib.Core.List.{List, [], _∷_, _++_}
 use mathlib.Core.Path.{_≡_, refl, sym, ap, _∙_}
 use Prim.Native.Nat.{ℕ, zero, suc, _+_, _-_, _≤_, _<_, _^_}
 use native.Mathlib.Omega.{arith}
 use lib.Dec.{eqb}
-use lib.ListN.{length, take}
-use lib.Seq.{length-sets, take-at}
+use lib.ListN.{length, take, drop}
+use lib.Seq.{sets, length-sets, take-at}
 use borrow.Author.Tests.{ne-eqb, eqb-false}
 use Rattle.samples.specs.Samples.{any-bad}
 use Rattle.rules.specs.declared.Device.{Device}
@@ -15,17 +15,16 @@ use Rattle.rules.specs.WellFormed.{malformed}
 use Rattle.rules.proofs.WellFormed.{WellFormed, well-formed}
 use Rattle.laws.proofs.Keeps.{steps-append, steps-keep}
 use Rattle.laws.proofs.KeepsSample.{step-samples}
-use Rattle.trace.specs.Reading.{form-refusal, sample-count, samples-from, samples-of, file-refusal}
-use Rattle.trace.specs.Answers as trace-answers
-use Rattle.trace.specs.Stretches.{give}
-use Rattle.trace.specs.declared.Stretch.{Stretch}
-use Rattle.trace.specs.declared.Stretch.the-variants.{Samples, End, Refused}
+use Rattle.trace.specs.Format.{sample-limit}
+use Rattle.trace.specs.Reading.{form-refusal, sample-count, sample-start, whole, samples-from, samples-of, file-refusal}
+use Rattle.trace.specs.Decoding.{samples-in, how-many}
 use Rattle.refusals.proofs.Numbered.{never-zero}
 use Rattle.refusals.specs.Table.{number}
 use Rattle.refusals.specs.declared.Refusal.{Refusal}
 use Rattle.trace.proofs.Filling.{put-over}
-use Rattle.trace.proofs.Rewritten.{length-samples-from, formed}
-use Rattle.trace.proofs.Stretches.{Part, taken-part, taken-end, taken-never, samples-over}
+use Rattle.trace.proofs.Form.{formed}
+use Rattle.trace.proofs.Rewritten.{length-samples-from}
+use Rattle.trace.proofs.ManySamples.{samples-over, samples-append, samples-here}
 
 steps-samples : (d : Device) (b ws : List ℕ) → steps d b ws .device .core .output .counts .samples ≡ d .core .output .counts .samples + length ws
 unfolding steps
@@ -51,61 +50,60 @@ refused-file f r form e = go (any-bad (samples-of f)) (rw form at e)
     go true e = (refl, e)
     go false e = absurd (eqb-false (number r) 0 (never-zero r) e)
 
+-- The samples left lead to the same end: k are done.
 pub record Stepping (f buffer₀ : List ℕ) (d₀ : Device) (buffer : List ℕ) (d : Device) (k : ℕ) (array : List ℕ) : Type 0 where
   pub same : steps d buffer (samples-from f k (sample-count f - k)) ≡ steps d₀ buffer₀ (samples-of f)
   pub well : WellFormed d
   pub count : d .core .output .counts .samples ≡ k
   pub long : length buffer ≡ length buffer₀
-  pub fine : any-bad (samples-from f k (sample-count f - k)) ≡ false
   pub room : length array ≡ 64
 
-pub stepping-start : (f buffer array : List ℕ) (d : Device) → WellFormed d → d .core .output .counts .samples ≡ 0 → file-refusal f ≡ 0 → length array ≡ 64 → Stepping f buffer d buffer d 0 array
-stepping-start f buffer array d well zero-samples taken room =
+pub stepping-start : (f buffer array : List ℕ) (d : Device) → WellFormed d → d .core .output .counts .samples ≡ 0 → length array ≡ 64 → Stepping f buffer d buffer d 0 array
+stepping-start f buffer array d well none room =
     let all : sample-count f - 0 ≡ sample-count f = omega arith in
-    record { same = rw all; well = well; count = zero-samples; long = refl; fine = rw all (accepted-file f taken .1); room = room }
+    record { same = rw all; well = well; count = none; long = refl; room = room }
 
 module _ {f buffer₀ : List ℕ} {d₀ : Device} {buffer : List ℕ} {d : Device} {k : ℕ} {array : List ℕ} (s : Stepping f buffer₀ d₀ buffer d k array) where
-  -- What a stretch says here: samples, or the end, and no refusal.
-  module _ (accepted : file-refusal f ≡ 0) {array′ : List ℕ} {told : Stretch} (e : trace-answers.given told array′ ≡ give f k array) where
-    pub stepping-taken : {n : ℕ} → told ≡ Samples n → Part f k array array′ n
-    stepping-taken {n} t = taken-part f k array array′ (accepted-file f accepted .0) (s .fine) n (rw t at e)
+  -- The next samples stand at the front of the array.
+  module _ (form : form-refusal f ≡ 0) (inside : k < sample-count f) {array′ : List ℕ} {n : ℕ} (many : n ≡ how-many f (sample-start f k) (sample-count f - k) (length array))
+      (front : array′ ≡ sets array 0 (samples-in n (drop (sample-start f k) f))) where
+    pub some : (0 < n) × (n ≤ 64) × (k + n ≤ sample-count f)
+    unfolding how-many
+    some =
+        let exact : length f ≡ whole f = formed f (length f) form .exact in
+        (omega (arith, s .room), omega (arith, s .room), omega (arith, s .room))
 
-    pub stepping-few : {n : ℕ} → told ≡ Samples n → k + n ≤ 16384
-    stepping-few t = omega (arith, stepping-taken t .within, formed f (accepted-file f accepted .0) .few)
+    pub stepping-room : n ≤ length array′
+    stepping-room = rw (front, length-sets) (omega (arith, some .1, s .room))
 
-    pub stepping-over : told ≡ End → sample-count f ≤ k
-    stepping-over t = taken-end f k array array′ (accepted-file f accepted .0) (s .fine) (rw t at e)
+    part : take n array′ ≡ samples-from f k n
+    part =
+        let l = length-samples-from f k n in
+        rw (front, samples-here f n k, put-over array (samples-from f k n) n l (omega (arith, some .1, s .room))) (take-at (samples-from f k n) _ n l)
 
-    pub stepping-never : {r : Refusal} → told ≡ Refused r → ⊥
-    stepping-never {r} t = taken-never f k array array′ (accepted-file f accepted .0) (s .fine) r (rw t at e)
+    -- They can all be counted.
+    pub stepping-asks : sample-count f ≤ sample-limit → (malformed d ≡ false) × (d .core .output .counts .samples + length (take n array′) < 2 ^ 32)
+    stepping-asks fits = (well-formed d (s .well), rw (part, length-samples-from f k n) (omega (arith, s .count, some .2)))
 
-  -- The samples of a stretch are the first of the array.
-  pub stepping-part : (array′ : List ℕ) (n : ℕ) → Part f k array array′ n → take n array′ ≡ samples-from f k n
-  stepping-part array′ n p =
-      let l = length-samples-from f k n in
-      rw (p .front, put-over array (samples-from f k n) n l (omega (arith, p .most, s .room))) (take-at (samples-from f k n) _ n l)
+    halves : samples-from f k (sample-count f - k) ≡ samples-from f k n ++ samples-from f (k + n) (sample-count f - (k + n))
+    halves =
+        let e : sample-count f - k ≡ n + (sample-count f - (k + n)) = omega (arith, some .2) in
+        ap (samples-from f k) e ∙ samples-append f k n (sample-count f - (k + n))
 
-  pub stepping-room : (array′ : List ℕ) (n : ℕ) → Part f k array array′ n → n ≤ length array′
-  stepping-room array′ n p = rw (p .front, length-sets) (omega (arith, p .most, s .room))
+    pub stepping-on : (buffer′ : List ℕ) (d′ : Device) → _≡_ {A = Ran} (record { device = d′; buffer = buffer′ }) (steps d buffer (take n array′)) → length buffer′ ≡ length buffer
+        → Stepping f buffer₀ d₀ buffer′ d′ (k + n) array′
+    stepping-on buffer′ d′ told el =
+        let e : _≡_ {A = Ran} (record { device = d′; buffer = buffer′ }) (steps d buffer (samples-from f k n)) = told ∙ ap (steps d buffer) part in
+        let ed : d′ ≡ steps d buffer (samples-from f k n) .device = ap (λ (x : Ran). x .device) e in
+        let eb : buffer′ ≡ steps d buffer (samples-from f k n) .buffer = ap (λ (x : Ran). x .buffer) e in
+        record {
+          same = rw (ed, eb, ← steps-append, ← halves) (s .same);
+          well = rw ed (steps-keep d buffer (samples-from f k n) (s .well));
+          count = rw (ed, steps-samples, length-samples-from) (omega (arith, s .count));
+          long = el ∙ s .long;
+          room = rw (front, length-sets) (s .room);
+        }
 
-  -- They can all be counted.
-  pub stepping-asks : (array′ : List ℕ) (n : ℕ) → Part f k array array′ n → k + n ≤ 16384 → (malformed d ≡ false) × (d .core .output .counts .samples + length (take n array′) < 2 ^ 32)
-  stepping-asks array′ n p few = (well-formed d (s .well), rw (stepping-part array′ n p, length-samples-from f k n) (omega (arith, s .count)))
-
-  pub stepping-on : (array′ buffer′ : List ℕ) (d′ : Device) (n : ℕ) → Part f k array array′ n → _≡_ {A = Ran} (record { device = d′; buffer = buffer′ }) (steps d buffer (samples-from f k n))
-      → length buffer′ ≡ length buffer → Stepping f buffer₀ d₀ buffer′ d′ (k + n) array′
-  stepping-on array′ buffer′ d′ n p e el =
-      let ed : d′ ≡ steps d buffer (samples-from f k n) .device = ap (λ (x : Ran). x .device) e in
-      let eb : buffer′ ≡ steps d buffer (samples-from f k n) .buffer = ap (λ (x : Ran). x .buffer) e in
-      record {
-        same = rw (ed, eb, ← steps-append, ← p .left) (s .same);
-        well = rw ed (steps-keep d buffer (samples-from f k n) (s .well));
-        count = rw (ed, steps-samples, length-samples-from) (omega (arith, s .count));
-        long = el ∙ s .long;
-        fine = p .fine;
-        room = rw (p .front, length-sets) (s .room);
-      }
-
-  pub stepping-end : sample-count f ≤ k → _≡_ {A = Ran} (steps d₀ buffer₀ (samples-of f)) (record { device = d; buffer = buffer })
+  pub stepping-end : sample-count f ≤ k → _≡_ {A = Ran} (record { device = d; buffer = buffer }) (steps d₀ buffer₀ (samples-of f))
   unfolding steps
-  stepping-end past = sym (s .same) ∙ ap (λ (ws : List ℕ). steps d buffer ws) (samples-over f k (sample-count f) past)
+  stepping-end past = sym (ap (λ (ws : List ℕ). steps d buffer ws) (samples-over f k (sample-count f) past)) ∙ s .same

@@ -29,7 +29,7 @@ run-content d writes samples memory start =
     let ready = set-up d writes in
     cond (eqb (ready .number) 0) (or-fresh (run (ready .device) memory start samples)) (refused (ready .number) memory)
 
--- 13, 10, 11, 12, 13, the first refused write's number, 9, 7, 8; or device and memory after the file.
+-- 13, 10, 11, 13, 12, 13, the first refused write's number, 9, 7, 8; or device and memory after the file.
 unfoldable pub run-on : Device → List ℕ → List ℕ → ℕ → RunResult
 run-on d file memory start =
     cond (eqb (form-refusal file) 0)

@@ -1,5 +1,5 @@
 // Running a trace file on a fresh device, over lent bytes and memory: the form checks, the register writes, then the samples as one run, taken
-// from the file by the trace crate, writes one at a time and samples by stretches. Refused, the memory is as it was lent.
+// from the file by the trace crate, writes one at a time and samples up to 64 at a time. Refused, the memory is as it was lent.
 ghost use mathlib.Core.Bool.{false};
 ghost use mathlib.Core.List.{List};
 ghost use mathlib.Core.Path.{_≡_};
@@ -20,12 +20,13 @@ use refusals::Refusal;
 use rules::Device;
 use sampling::run;
 use trace::Item;
-use trace::Stretch;
 use trace::Write;
 use trace::check_file;
 use trace::check_form;
 use trace::item_at;
-use trace::stretch_at;
+use trace::sample_count;
+use trace::samples_at;
+use trace::samples_start;
 use trace::write_count;
 
 // One write of a file.
@@ -83,35 +84,24 @@ fn set_up(fresh: Device, file: &[u8]) -> Changed
     }
 }
 
-// The samples of an accepted file in order, stretch by stretch: none is refused, as the proof says.
-fn steps(d: Device, buffer: &mut [u8], file: &[u8]) -> Changed
+// The samples of a file of the right form in order, up to 64 at a time.
+fn steps(d: Device, buffer: &mut [u8], file: &[u8]) -> Device
     requires { ⌜ WellFormed d ⌝ }
     requires { ⌜ d .core .output .counts .samples ≡ 0 ⌝ }
-    requires { ⌜ reading.file-refusal (now file) ≡ 0 ⌝ }
-    ensures { λ r. ⌜ outcome (r .outcome) ≡ 0 ⌝ }
-    ensures { λ r. ⌜ sample-answers.ran (r .device) (now (buffer .exit)) ≡ run-rules.steps d (now (buffer .entry)) (reading.samples-of (now (file .entry))) ⌝ }
+    requires { ⌜ reading.form-refusal (now file) ≡ 0 ⌝ }
+    ensures { λ r. ⌜ sample-answers.ran r (now (buffer .exit)) ≡ run-rules.steps d (now (buffer .entry)) (reading.samples-of (now (file .entry))) ⌝ }
 {
+    let count = sample_count(file);
+    let from = samples_start(file);
     let mut e = d;
     let mut done = 0;
     let mut samples = [0; 64];
-    loop {
-        let stretch = stretch_at(file, done, &mut samples);
-        let Stretch::Samples(n) = stretch else {
-            let Stretch::Refused(refusal) = stretch else {
-                // the end
-                return Changed {
-                    device: e,
-                    outcome: Outcome::Accepted,
-                };
-            };
-            return Changed {
-                device: e,
-                outcome: Outcome::Refused(refusal),
-            };
-        };
+    while done < count {
+        let n = samples_at(file, from + 3 * done, count - done, &mut samples);
         e = run(e, buffer, &samples[..n]);
         done += n;
     }
+    e
 }
 
 // The samples of a file as one run on a device that has counted none: refusals 9 and 7. Refused, the device is a fresh one.
@@ -126,7 +116,11 @@ fn run_samples(d: Device, file: &[u8], memory: &mut [u8], start: usize) -> Chang
     }
     let checked = check_file(file);
     let Outcome::Refused(refusal) = checked else {
-        return steps(d, &mut memory[start..], file);
+        let device = steps(d, &mut memory[start..], file);
+        return Changed {
+            device,
+            outcome: Outcome::Accepted,
+        };
     };
     refused(refusal)
 }
@@ -158,7 +152,7 @@ fn run_on(fresh: Device, file: &[u8], memory: &mut [u8], start: usize) -> Change
     refused(refusal)
 }
 
-// A trace file on a fresh device, over the memory from the start byte on. Refusals 13, 10, 11, 12, 13, the first refused write's number, 9, 7, 8; refused, the
+// A trace file on a fresh device, over the memory from the start byte on. Refusals 13, 10, 11, 13, 12, 13, the first refused write's number, 9, 7, 8; refused, the
 // device is a fresh one.
 pub fn run_file(file: &[u8], memory: &mut [u8], start: usize) -> Changed
     ensures { λ r. ⌜ device-answers.ran r (now (memory .exit)) ≡ file-rules.run-file (now (file .entry)) (now (memory .entry)) start ⌝ }

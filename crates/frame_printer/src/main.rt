@@ -1,11 +1,14 @@
-// The frame printer: it runs the trace file on standard input over 16,384 zero bytes, and prints the refusal, or the counts, the flags and each
-// landed word. At most one byte more than the largest file is read. A read that fails ends the input; a write that fails ends the output.
+// The frame printer: it runs the trace file on standard input by parts over 16,384 zero bytes, and prints the refusal, or the counts, the flags and each
+// landed word. Nothing is printed before the outcome is certain. No byte is read behind the one that is one too many, nor behind a header that is refused. A
+// read that fails ends the input; a write that fails ends the output. The buffers have 32,768 bytes for input, 16,384 of memory, 1,024 for samples, and in `io` 4,096.
 ghost use mathlib.Core.Path.{_≡_};
-ghost use Prim.Native.Nat.{_<_};
+ghost use Prim.Native.Nat.{_≤_, _<_};
+ghost use Rattle.io.specs.Counts.{Counts};
 ghost use Rattle.frame_printer.specs.Text as spelling;
 use libc::STDIN_FILENO;
 use libc::STDOUT_FILENO;
 use output::word_at;
+use parts::Parts;
 use refusals::Outcome;
 use rules::Device;
 
@@ -45,8 +48,10 @@ fn word_line(x: u32) -> bool {
 
 // A name and a count as a line.
 fn count_line(name: &[u8], n: u32) -> bool {
+    let mut digits = [0u8; 20];
+    let k = io::decimal(n as u64, &mut digits);
     if text(name) {
-        if io::print_decimal(STDOUT_FILENO, n as u64) {
+        if text(&digits[..k]) {
             return text(b"\n");
         }
         return false;
@@ -101,11 +106,11 @@ fn refused(outcome: Outcome) {
     }
 }
 
-// A file run over the memory, and printed.
-fn print(file: &[u8], memory: &mut [u8]) {
-    let ran = files::run_file(file, memory, 0);
-    let d = ran.device;
-    let outcome = ran.outcome;
+// What the end of the input says.
+fn print(parts: Parts, memory: &[u8]) {
+    let ended = parts::end(parts, memory, 0);
+    let d = ended.device;
+    let outcome = ended.outcome;
     let Outcome::Accepted = outcome else {
         refused(outcome);
         return;
@@ -115,9 +120,28 @@ fn print(file: &[u8], memory: &mut [u8]) {
     }
 }
 
+// One read of standard input, of at most n bytes to the front of the buffer: how many came. None came at the end, and where the read failed.
+fn read(buffer: &mut [u8], n: usize) -> usize
+    ensures { λ r. ⌜ (r ≤ n) × Counts r (now (buffer .exit)) ⌝ }
+{
+    if n < buffer.len() {
+        let got = libc::read(STDIN_FILENO, &mut buffer[..n]);
+        return io::count(got, &buffer[..n]);
+    }
+    let got = libc::read(STDIN_FILENO, buffer);
+    io::count(got, buffer)
+}
+
 fn main() {
-    let mut file = [0u8; 50436];
+    let mut buffer = [0u8; 32768];
     let mut memory = [0u8; 16384];
-    let length = io::read_full(STDIN_FILENO, &mut file);
-    print(&file[..length], &mut memory);
+    let mut p = parts::open(device::fresh());
+    loop {
+        let n = read(&mut buffer, parts::wanted(p));
+        if n == 0 {
+            break;
+        }
+        p = parts::take(p, &buffer[..n], &mut memory, 0);
+    }
+    print(p, &memory);
 }

@@ -26,11 +26,11 @@ number SampleTotal = 8
 number StartBeyond = 9
 -- mark is not FGT
 number Mark = 10
--- version is not 1
+-- version is neither 1 nor 2 (W7)
 number Version = 11
--- sample count of a file or of the writer above 16,384
+-- sample count of a version 1 file above 16,384, of a version 2 file not above it, or of the writer above 4,294,967,295 (W7)
 number SampleCount = 12
--- fewer than 8 bytes, or length not as the header says
+-- fewer than 8 bytes, in version 2 10 (W7), or length not as the header says
 number Length = 13
 -- more than 255 writes given to the writer
 number WriteCount = 14

@@ -9,9 +9,8 @@ use native.Mathlib.Omega.{arith}
 use lib.ListN.{length, getD, set, drop, length-append, length-drop, drop-of-length-le}
 use lib.Seq.{sets, length-sets, sets-eq, drop-cons}
 use Rattle.trace.specs.declared.Write.{Write}
-use Rattle.trace.specs.Format.{header-length, write-size, sample-size, little, write-bytes, sample-bytes, header, encode}
+use Rattle.trace.specs.Format.{version-for, count-size, header-length, write-size, sample-size, write-start, little, write-bytes, sample-bytes, header, encode}
 use Rattle.trace.specs.Writing.{given, given-from}
-use Rattle.trace.specs.Reading.{write-start}
 use Rattle.trace.proofs.Numbers.{length-little}
 use Rattle.trace.proofs.ReadBack.{length-write-bytes, length-sample-bytes, length-header}
 
@@ -82,9 +81,9 @@ length-given offsets values k zero = refl
 length-given offsets values k (suc n) = ap suc (length-given offsets values (suc k) n)
 
 -- There is room for the next write, and for the next sample.
-pub write-room : (whole out offsets values : List ℕ) (k n : ℕ)
-    → Filling whole out (write-start k) (write-bytes (given-from offsets values k (n - k))) → k < n → write-start k + write-size ≤ length out
-write-room whole out offsets values k n f h =
+pub write-room : (whole out offsets values : List ℕ) (at k n : ℕ)
+    → Filling whole out (at + write-size * k) (write-bytes (given-from offsets values k (n - k))) → k < n → at + write-size * k + write-size ≤ length out
+write-room whole out offsets values at k n f h =
     let all : length (write-bytes (given-from offsets values k (n - k))) ≡ write-size * (n - k) = length-write-bytes (given-from offsets values k (n - k)) ∙ ap (λ (x : ℕ). write-size * x) (length-given offsets values k (n - k)) in
     omega (arith, f .room)
 
@@ -95,15 +94,15 @@ sample-room whole out samples at k f h =
     omega (arith, f .room)
 
 -- One write further, and one sample.
-pub write-on : (whole out out′ offsets values : List ℕ) (k n : ℕ)
-    → Filling whole out (write-start k) (write-bytes (given-from offsets values k (n - k))) → k < n
-    → out′ ≡ sets out (write-start k) (little 1 (getD offsets k 0) ++ little 4 (getD values k 0))
-    → Filling whole out′ (write-start (k + 1)) (write-bytes (given-from offsets values (k + 1) (n - (k + 1))))
-write-on whole out out′ offsets values k n f h e =
+pub write-on : (whole out out′ offsets values : List ℕ) (at k n : ℕ)
+    → Filling whole out (at + write-size * k) (write-bytes (given-from offsets values k (n - k))) → k < n
+    → out′ ≡ sets out (at + write-size * k) (little 1 (getD offsets k 0) ++ little 4 (getD values k 0))
+    → Filling whole out′ (at + write-size * (k + 1)) (write-bytes (given-from offsets values (k + 1) (n - (k + 1))))
+write-on whole out out′ offsets values at k n f h e =
     let o : List ℕ = little 1 (getD offsets k 0) in
     let v : List ℕ = little 4 (getD values k 0) in
     let five : length (o ++ v) ≡ write-size = rw (length-append o v, length-little 1 (getD offsets k 0), length-little 4 (getD values k 0)) in
-    fill-on whole out out′ (write-start k) (write-start (k + 1)) _ (o ++ v) _ f (first-write offsets values k n h) e (omega (arith, five))
+    fill-on whole out out′ (at + write-size * k) (at + write-size * (k + 1)) _ (o ++ v) _ f (first-write offsets values k n h) e (omega (arith, five))
 
 pub sample-on : (whole out out′ samples : List ℕ) (at k : ℕ)
     → Filling whole out (at + sample-size * k) (sample-bytes (drop k samples)) → k < length samples
@@ -113,17 +112,18 @@ sample-on whole out out′ samples at k f h e =
     fill-on whole out out′ (at + sample-size * k) (at + sample-size * (k + 1)) _ (little sample-size (getD samples k 0)) (sample-bytes (drop (k + 1) samples)) f (first-sample samples k h) e (omega (arith, length-little sample-size (getD samples k 0)))
 
 -- The header's four stretches.
-pub header-put : (out : List ℕ) (writes samples : ℕ)
-    → sets (sets (sets (sets out 0 (little 3 0x544746)) 3 (little 2 1)) 5 (little 1 writes)) 6 (little 2 samples) ≡ sets out 0 (header writes samples)
+pub header-put : (out : List ℕ) (writes samples version size : ℕ) → version ≡ version-for samples → size ≡ count-size version
+    → sets (sets (sets (sets out 0 (little 3 0x544746)) 3 (little 2 version)) 5 (little 1 writes)) 6 (little size samples) ≡ sets out 0 (header writes samples)
 unfolding header little
-header-put out writes samples = refl
+header-put out writes samples version size p q = rw (q, p)
 
 -- Where the writes, and the samples, begin.
-pub writes-start : (out offsets values : List ℕ) (n : ℕ) → write-start n ≤ length out
-    → Filling (sets out header-length (write-bytes (given n offsets values))) out (write-start 0) (write-bytes (given-from offsets values 0 (n - 0)))
-writes-start out offsets values n h =
+pub writes-start : (out offsets values : List ℕ) (at n : ℕ) → at + write-size * n ≤ length out
+    → Filling (sets out at (write-bytes (given n offsets values))) out (at + write-size * 0) (write-bytes (given-from offsets values 0 (n - 0)))
+writes-start out offsets values at n h =
     let e : n - 0 ≡ n = omega arith in
-    rw e (record { leads = refl; room = rw (length-write-bytes (given n offsets values), length-given offsets values 0 n) h })
+    let z : at + write-size * 0 ≡ at = omega arith in
+    rw (e, z) (record { leads = refl; room = rw (length-write-bytes (given n offsets values), length-given offsets values 0 n) h })
 
 pub samples-start : (out samples : List ℕ) (at : ℕ) → at + sample-size * length samples ≤ length out
     → Filling (sets out at (sample-bytes samples)) out (at + sample-size * 0) (sample-bytes (drop 0 samples))
@@ -132,14 +132,14 @@ samples-start out samples at h =
     rw e (record { leads = refl; room = rw (length-sample-bytes samples) h })
 
 -- The three stretches of a file are put as one, and one that fits lies over the first bytes.
-pub file-put : (out : List ℕ) (ws : List Write) (ss : List ℕ) (writes samples : ℕ) → length ws ≡ writes → length ss ≡ samples
-    → sets (sets (sets out 0 (header writes samples)) header-length (write-bytes ws)) (write-start writes) (sample-bytes ss) ≡ sets out 0 (encode ws ss)
+pub file-put : (out : List ℕ) (ws : List Write) (ss : List ℕ) (writes samples at : ℕ) → length ws ≡ writes → length ss ≡ samples → at ≡ header-length (version-for samples)
+    → sets (sets (sets out 0 (header writes samples)) at (write-bytes ws)) (at + write-size * writes) (sample-bytes ss) ≡ sets out 0 (encode ws ss)
 unfolding encode
-file-put out ws ss writes samples p q =
+file-put out ws ss writes samples at p q r =
     let h : List ℕ = header (length ws) (length ss) in
-    let n : length h ≡ header-length = length-header (length ws) (length ss) in
-    let m : length (h ++ write-bytes ws) ≡ write-start (length ws) = length-append h (write-bytes ws) ∙ rw (n, length-write-bytes ws) in
-    sym (rw (sets-append out 0 (h ++ write-bytes ws) (sample-bytes ss), sets-append out 0 h (write-bytes ws), m, n, p, q, zero-add, zero-add))
+    let n : length h ≡ header-length (version-for (length ss)) = length-header (length ws) (length ss) in
+    let m : length (h ++ write-bytes ws) ≡ write-start (version-for (length ss)) (length ws) = length-append h (write-bytes ws) ∙ rw (n, length-write-bytes ws) in
+    sym (rw (sets-append out 0 (h ++ write-bytes ws) (sample-bytes ss), sets-append out 0 h (write-bytes ws), m, n, r, p, q, zero-add (header-length (version-for samples)), zero-add))
 
 pub put-over : (out file : List ℕ) (n : ℕ) → length file ≡ n → n ≤ length out → sets out 0 file ≡ file ++ drop n out
 put-over out file n e h = rw (← e) (sets-eq file out 0 (rw (zero-add, e) h) ∙ rw zero-add)

@@ -7,10 +7,10 @@ use Prim.Native.Nat.{ℕ, suc, _+_, _*_, _^_, _≤_, _<_}
 use native.Mathlib.Omega.{arith}
 use lib.ListN.{length, take, length-append}
 use lib.Seq.{take-at, drop-at}
-use borrow.Author.Tests.{le-ltb, eq-eqb}
 use Rattle.trace.specs.declared.Write.{Write}
-use Rattle.trace.specs.Format.{WritesFit, header-length, write-size, sample-size, little, write-bytes, sample-bytes, mark, version, header, encode}
-use Rattle.trace.specs.Reading.{field, same, write-count, sample-count, whole, form-refusal, write-at, sample-at, writes-from, samples-from, writes-of, samples-of, write-start, sample-start}
+use Rattle.trace.specs.Format.{WritesFit, sample-limit, version-for, count-size, header-length, write-size, sample-size, write-start, little, write-bytes, sample-bytes, mark, header, encode}
+use Rattle.trace.specs.Reading.{field, same, version-of, write-count, sample-count, whole, form-refusal, write-at, sample-at, writes-from, samples-from, writes-of, samples-of, sample-start}
+use Rattle.trace.proofs.Form.{version-fits, count-fits, good-form}
 use Rattle.trace.proofs.Numbers.{length-little, number-little}
 
 -- What a trace file can hold.
@@ -22,27 +22,28 @@ pub record Fits (ws : List Write) (ss : List ℕ) : Type 0 where
   pub writes : WritesFit ws
   pub samples : SamplesFit ss
   pub few-writes : length ws ≤ 255
-  pub few-samples : length ss ≤ 16384
+  pub few-samples : length ss ≤ sample-limit
 
 -- A field behind a known number of bytes.
 pub read-field : (f pre post : List ℕ) (at n x : ℕ) → f ≡ pre ++ (little n x ++ post) → length pre ≡ at → x < 256 ^ n → field f at n ≡ x
 unfolding field
 read-field f pre post at n x e l h = rw (e, drop-at pre (little n x ++ post) at l, take-at (little n x) post n (length-little n x)) (number-little n x h)
 
-write-is : (f : List ℕ) (k : ℕ) (w : Write) → field f (write-start k) 1 ≡ w .offset → field f (write-start k + 1) 4 ≡ w .value → write-at f k ≡ w
+write-is : (f : List ℕ) (k : ℕ) (w : Write) → field f (write-start (version-of f) k) 1 ≡ w .offset → field f (write-start (version-of f) k + 1) 4 ≡ w .value → write-at f k ≡ w
 unfolding write-at
 write-is f k w p q = λ i. record { offset = p i; value = q i }
 
 pub read-writes : (ws : List Write) (f pre post : List ℕ) (k : ℕ)
-    → f ≡ pre ++ (write-bytes ws ++ post) → length pre ≡ write-start k → WritesFit ws → writes-from f k (length ws) ≡ ws
+    → f ≡ pre ++ (write-bytes ws ++ post) → length pre ≡ write-start (version-of f) k → WritesFit ws → writes-from f k (length ws) ≡ ws
 unfolding write-bytes writes-from
 read-writes [] f pre post k e l h = refl
 read-writes (w ∷ ws) f pre post k e l h =
     let rest : List ℕ = write-bytes ws ++ post in
-    let p : field f (write-start k) 1 ≡ w .offset
-    = read-field f pre (little 4 (w .value) ++ rest) (write-start k) 1 (w .offset) (e ∙ simp append-assoc) l (omega (arith, h .0)) in
-    let q : field f (write-start k + 1) 4 ≡ w .value
-    = read-field f (pre ++ little 1 (w .offset)) rest (write-start k + 1) 4 (w .value) (e ∙ simp append-assoc) (simp (length-append, length-little) (omega arith)) (omega (arith, h .1)) in
+    let at : ℕ = write-start (version-of f) k in
+    let p : field f at 1 ≡ w .offset
+    = read-field f pre (little 4 (w .value) ++ rest) at 1 (w .offset) (e ∙ simp append-assoc) l (omega (arith, h .0)) in
+    let q : field f (at + 1) 4 ≡ w .value
+    = read-field f (pre ++ little 1 (w .offset)) rest (at + 1) 4 (w .value) (e ∙ simp append-assoc) (simp (length-append, length-little) (omega arith)) (omega (arith, h .1)) in
     let t : writes-from f (suc k) (length ws) ≡ ws
     = read-writes ws f (pre ++ little 1 (w .offset) ++ little 4 (w .value)) post (suc k) (e ∙ simp append-assoc) (simp (length-append, length-little) (omega arith)) (h .2) in
     rw (write-is f k w p q, t)
@@ -68,42 +69,43 @@ unfolding sample-bytes
 length-sample-bytes [] = refl
 length-sample-bytes (s ∷ ss) = simp (length-append, length-little) (omega (arith, length-sample-bytes ss))
 
-pub length-header : (writes samples : ℕ) → length (header writes samples) ≡ header-length
+pub length-header : (writes samples : ℕ) → length (header writes samples) ≡ header-length (version-for samples)
 unfolding header
-length-header writes samples = simp (length-append, length-little)
+length-header writes samples = simp (length-append, length-little) (omega arith)
 
-pub length-encode : (ws : List Write) (ss : List ℕ) → length (encode ws ss) ≡ write-start (length ws) + sample-size * length ss
+pub length-encode : (ws : List Write) (ss : List ℕ) → length (encode ws ss) ≡ write-start (version-for (length ss)) (length ws) + sample-size * length ss
 unfolding encode
 length-encode ws ss = simp (length-append, length-header, length-write-bytes, length-sample-bytes)
 
--- A file that passes the five tests has good form.
-pub good-form : (f : List ℕ) → header-length ≤ length f → same (take 3 f) mark ≡ true → field f 3 2 ≡ version → sample-count f ≤ 16384 → length f ≡ whole f
-    → form-refusal f ≡ 0
-unfolding form-refusal
-good-form f a b c d e = rw (le-ltb _ _ a, b, eq-eqb _ _ c, le-ltb _ _ d, eq-eqb _ _ e)
-
 module _ (ws : List Write) (ss : List ℕ) (fits : Fits ws ss) where
+  -- The version that the number of samples has, and its bytes.
+  abbrev version : ℕ
+  version = version-for (length ss)
+
+  abbrev count : List ℕ
+  count = little (count-size version) (length ss)
+
+  version-back : version-of (encode ws ss) ≡ version
+  unfolding encode header
+  version-back =
+      read-field (encode ws ss) mark (little 1 (length ws) ++ (count ++ (write-bytes ws ++ sample-bytes ss))) 3 2 version
+      (simp append-assoc) refl (version-fits (length ss))
+
   pub write-count-back : write-count (encode ws ss) ≡ length ws
   unfolding encode header
   write-count-back =
-      read-field (encode ws ss) (mark ++ little 2 version) (little 2 (length ss) ++ (write-bytes ws ++ sample-bytes ss)) 5 1 (length ws)
+      read-field (encode ws ss) (mark ++ little 2 version) (count ++ (write-bytes ws ++ sample-bytes ss)) 5 1 (length ws)
       (simp append-assoc) (simp length-little) (omega (arith, fits .few-writes))
 
   pub sample-count-back : sample-count (encode ws ss) ≡ length ss
   unfolding encode header
   sample-count-back =
-      read-field (encode ws ss) (mark ++ little 2 version ++ little 1 (length ws)) (write-bytes ws ++ sample-bytes ss) 6 2 (length ss)
-      (simp append-assoc) (simp (length-append, length-little)) (omega (arith, fits .few-samples))
-
-  version-back : field (encode ws ss) 3 2 ≡ version
-  unfolding encode header
-  version-back =
-      read-field (encode ws ss) mark (little 1 (length ws) ++ (little 2 (length ss) ++ (write-bytes ws ++ sample-bytes ss))) 3 2 version
-      (simp append-assoc) refl (omega arith)
+      rw version-back
+      (read-field (encode ws ss) (mark ++ little 2 version ++ little 1 (length ws)) (write-bytes ws ++ sample-bytes ss) 6 (count-size version) (length ss)
+      (simp append-assoc) (simp (length-append, length-little)) (count-fits (length ss) (fits .few-samples)))
 
   pub length-back : length (encode ws ss) ≡ whole (encode ws ss)
-  unfolding encode
-  length-back = rw (write-count-back, sample-count-back) (simp (length-append, length-header, length-write-bytes, length-sample-bytes))
+  length-back = rw (write-count-back, sample-count-back, version-back) (length-encode ws ss)
 
   mark-back : same (take 3 (encode ws ss)) mark ≡ true
   unfolding encode header same
@@ -111,17 +113,16 @@ module _ (ws : List Write) (ss : List ℕ) (fits : Fits ws ss) where
 
   pub form-back : form-refusal (encode ws ss) ≡ 0
   form-back =
-      let l = length-back in
-      good-form (encode ws ss) (omega arith) mark-back version-back (rw sample-count-back (fits .few-samples)) l
+      good-form (encode ws ss) (length (encode ws ss)) mark-back (rw (sample-count-back, version-back)) length-back
 
   pub writes-back : writes-of (encode ws ss) ≡ ws
   unfolding encode
   writes-back =
-      rw write-count-back (read-writes ws (encode ws ss) (header (length ws) (length ss)) (sample-bytes ss) 0 (simp append-assoc) (length-header (length ws) (length ss)) (fits .writes))
+      rw write-count-back (read-writes ws (encode ws ss) (header (length ws) (length ss)) (sample-bytes ss) 0 (simp append-assoc) (rw version-back (omega (arith, length-header (length ws) (length ss)))) (fits .writes))
 
   pub samples-back : samples-of (encode ws ss) ≡ ss
   unfolding encode
   samples-back =
       rw sample-count-back
       (read-samples ss (encode ws ss) (header (length ws) (length ss) ++ write-bytes ws) [] 0 (simp (append-assoc, append-nil))
-      (rw write-count-back (simp (length-append, length-header, length-write-bytes) (omega arith))) (fits .samples))
+      (rw (write-count-back, version-back) (simp (length-append, length-header, length-write-bytes) (omega arith))) (fits .samples))

@@ -1,57 +1,15 @@
 -- A file of good form is the very file that `encode` gives for its writes and samples: nothing in it is left unread.
 -- The idea: a field's number gives its bytes back, the items' bytes are one stretch of the file, and the stretches join. Assumes nothing.
-use mathlib.Core.Bool.{true, not}
-use mathlib.Core.List.{List, [], _∷_, _++_}
+use mathlib.Core.List.{List, [], _++_}
 use mathlib.Core.Path.{_≡_, refl, sym, ap, _∙_}
 use Prim.Native.Nat.{ℕ, zero, suc, _+_, _*_, _≤_}
 use native.Mathlib.Omega.{arith}
 use lib.ListN.{length, take, drop, length-drop}
 use lib.Seq.{length-take-le, take-length, take-add, drop-drop}
-use lib.Dec.{eqb, ltb}
-use borrow.Author.Tests.{ltb-false, eqb-true, not-false}
-use Rattle.refusals.proofs.Accepted.{accepted}
-use Rattle.bits.proofs.Booleans.{and-true}
-use Rattle.refusals.specs.Refusals.{_⇒_}
-use Rattle.trace.specs.Format.{Bytes, header-length, write-size, sample-size, little, write-bytes, sample-bytes, mark, version, header, encode}
-use Rattle.trace.specs.Reading.{field, same, write-count, sample-count, whole, form-refusal, write-at, sample-at, writes-from, samples-from, writes-of, samples-of, write-start, sample-start}
+use Rattle.trace.specs.Format.{Bytes, count-size, header-length, write-size, sample-size, write-start, little, write-bytes, sample-bytes, mark, header, encode}
+use Rattle.trace.specs.Reading.{field, version-of, write-count, sample-count, form-refusal, write-at, sample-at, writes-from, samples-from, writes-of, samples-of, sample-start}
+use Rattle.trace.proofs.Form.{Formed, formed}
 use Rattle.trace.proofs.Numbers.{bytes-take, bytes-drop, little-number}
-
--- What the form checks say of a file.
-pub record Formed (f : List ℕ) : Type 0 where
-  pub long : header-length ≤ length f
-  pub marked : take 3 f ≡ mark
-  pub versioned : field f 3 2 ≡ version
-  pub few : sample-count f ≤ 16384
-  pub exact : length f ≡ whole f
-
-same-equal : (xs ys : List ℕ) → same xs ys ≡ true → xs ≡ ys
-unfolding same
-same-equal [] [] e = refl
-same-equal [] (y ∷ ys) e = cc
-same-equal (x ∷ xs) [] e = cc
-same-equal (x ∷ xs) (y ∷ ys) e =
-    let (h, t) = and-true (eqb x y) (same xs ys) e in
-    rw (eqb-true x y h, same-equal xs ys t)
-
-pub formed : (f : List ℕ) → form-refusal f ≡ 0 → Formed f
-unfolding form-refusal
-formed f e =
-    let (a, (b, (c, (d, (g, u))))) =
-    accepted
-    (ltb (length f) header-length ⇒ 13 ∷
-    not (same (take 3 f) mark) ⇒ 10 ∷
-    not (eqb (field f 3 2) version) ⇒ 11 ∷
-    ltb 16384 (sample-count f) ⇒ 12 ∷
-    not (eqb (length f) (whole f)) ⇒ 13 ∷
-    [])
-    (omega arith, (omega arith, (omega arith, (omega arith, (omega arith, tt))))) e in
-    record {
-      long = ltb-false _ _ a;
-      marked = same-equal _ _ (not-false _ b);
-      versioned = eqb-true _ _ (not-false _ c);
-      few = ltb-false _ _ d;
-      exact = eqb-true _ _ (not-false _ g);
-    }
 
 -- n bytes of a file from a byte on: two parts that meet are one part, and a field's number gives its part.
 unfoldable pub part : List ℕ → ℕ → ℕ → List ℕ
@@ -71,17 +29,19 @@ part-none : (f : List ℕ) (at n : ℕ) → n ≡ 0 → [] ≡ part f at n
 unfolding part
 part-none f at n e = rw e
 
-pub write-part : (f : List ℕ) (k n : ℕ) → Bytes f → write-start (k + n) ≤ length f → write-bytes (writes-from f k n) ≡ part f (write-start k) (write-size * n)
+pub write-part : (f : List ℕ) (k n : ℕ) → Bytes f → write-start (version-of f) (k + n) ≤ length f
+    → write-bytes (writes-from f k n) ≡ part f (write-start (version-of f) k) (write-size * n)
 unfolding write-bytes writes-from write-at
-write-part f k zero b h = part-none f (write-start k) (write-size * 0) (omega arith)
+write-part f k zero b h = part-none f (write-start (version-of f) k) (write-size * 0) (omega arith)
 write-part f k (suc n) b h =
+    let at : ℕ = write-start (version-of f) k in
     rw (
-      field-bytes f (write-start k) 1 b (omega arith),
-      field-bytes f (write-start k + 1) 4 b (omega arith),
+      field-bytes f at 1 b (omega arith),
+      field-bytes f (at + 1) 4 b (omega arith),
       write-part f (suc k) n b (omega arith),
-      part-join f (write-start k) 1 (write-start k + 1) 4 write-size (omega arith) (omega arith),
+      part-join f at 1 (at + 1) 4 write-size (omega arith) (omega arith),
     )
-    (part-join f (write-start k) write-size (write-start (suc k)) (write-size * n) (write-size * suc n) (omega arith) (omega arith))
+    (part-join f at write-size (write-start (version-of f) (suc k)) (write-size * n) (write-size * suc n) (omega arith) (omega arith))
 
 pub sample-part : (f : List ℕ) (k n : ℕ) → Bytes f → sample-start f (k + n) ≤ length f
     → sample-bytes (samples-from f k n) ≡ part f (sample-start f k) (sample-size * n)
@@ -101,22 +61,21 @@ unfolding samples-from
 length-samples-from f k zero = refl
 length-samples-from f k (suc n) = ap suc (length-samples-from f (suc k) n)
 
-header-part : (f : List ℕ) → Bytes f → Formed f → header (write-count f) (sample-count f) ≡ part f 0 header-length
+header-part : (f : List ℕ) → Bytes f → Formed f (length f) → header (write-count f) (sample-count f) ≡ part f 0 (header-length (version-of f))
 unfolding header
 header-part f b g =
-    let w : ℕ = write-count f in
-    let s : ℕ = sample-count f in
+    let size : ℕ = count-size (version-of f) in
     let m : mark ≡ part f 0 3 = unfold part in sym (g .marked) in
-    let v : little 2 version ≡ part f 3 2 = ap (little 2) (sym (g .versioned)) ∙ field-bytes f 3 2 b (omega (arith, g .long)) in
-    ap (λ (x : List ℕ). x ++ little 2 version ++ little 1 w ++ little 2 s) m
-    ∙ ap (λ (x : List ℕ). part f 0 3 ++ x ++ little 1 w ++ little 2 s) v
+    rw (← g .versioned)
+    (ap (λ (x : List ℕ). x ++ little 2 (version-of f) ++ little 1 (write-count f) ++ little size (sample-count f)) m
     ∙ rw (
+      field-bytes f 3 2 b (omega (arith, g .long)),
       field-bytes f 5 1 b (omega (arith, g .long)),
-      field-bytes f 6 2 b (omega (arith, g .long)),
+      field-bytes f 6 size b (omega (arith, g .long)),
       part-join f 0 3 3 2 5 refl refl,
       part-join f 0 5 5 1 6 refl refl,
     )
-    (part-join f 0 6 6 2 header-length refl refl)
+    (part-join f 0 6 6 size (header-length (version-of f)) refl refl))
 
 pub length-writes-of : (f : List ℕ) → length (writes-of f) ≡ write-count f
 length-writes-of f = length-writes-from f 0 (write-count f)
@@ -127,14 +86,16 @@ length-samples-of f = length-samples-from f 0 (sample-count f)
 pub rewritten : (f : List ℕ) → Bytes f → form-refusal f ≡ 0 → encode (writes-of f) (samples-of f) ≡ f
 unfolding encode
 rewritten f b e =
-    let g = formed f e in
+    let g = formed f (length f) e in
+    let writes : ℕ = write-start (version-of f) 0 in
+    let samples : ℕ = write-start (version-of f) (write-count f) in
     rw (
       length-writes-of f,
       length-samples-of f,
       header-part f b g,
       write-part f 0 (write-count f) b (omega (arith, g .exact)),
       sample-part f 0 (sample-count f) b (omega (arith, g .exact)),
-      part-join f 0 header-length (write-start 0) (write-size * write-count f) (write-start (write-count f)) (omega arith) (omega arith),
-      part-join f 0 (write-start (write-count f)) (sample-start f 0) (sample-size * sample-count f) (length f) (omega arith) (omega (arith, g .exact)),
+      part-join f 0 (header-length (version-of f)) writes (write-size * write-count f) samples (omega arith) (omega arith),
+      part-join f 0 samples (sample-start f 0) (sample-size * sample-count f) (length f) (omega arith) (omega (arith, g .exact)),
     )
     (unfold part in take-length f)

@@ -17,13 +17,13 @@ use Rattle.bits.proofs.Booleans.{or-false}
 use Rattle.refusals.specs.Refusals.{_⇒_, answered}
 use Rattle.samples.specs.Samples.{bad-sample, any-bad}
 use Rattle.trace.specs.declared.Write.{Write}
-use Rattle.trace.specs.Format.{Bytes, WritesFit, encode}
+use Rattle.trace.specs.Format.{Bytes, WritesFit, sample-limit, encode}
 use Rattle.trace.specs.Reading.{Item, a-write, a-sample, the-end, checked, past, found, read, visits, form-refusal, write-count, sample-count, sample-at, writes-from, samples-from, writes-of, samples-of}
 use Rattle.trace.specs.Writing.{WriteResult, write-refusal, write}
-use Rattle.trace.proofs.Fields.{field-one}
+use Rattle.trace.proofs.Fields.{field-one, count-below}
 use Rattle.trace.proofs.Numbers.{byte-below}
 use Rattle.trace.proofs.ReadBack.{SamplesFit, Fits, form-back, write-count-back, sample-count-back, writes-back, samples-back}
-use Rattle.trace.proofs.Rewritten.{formed, rewritten, length-writes-of, length-samples-of}
+use Rattle.trace.proofs.Rewritten.{rewritten, length-writes-of, length-samples-of}
 use Rattle.trace.proofs.Walk.{write-place, sample-place, end-place}
 
 -- Where the place stays, every further reading finds the same.
@@ -75,12 +75,12 @@ samples-fit (s ∷ ss) e =
 
 -- What the writer writes, the reader reads back: the same writes, then the same samples, then the end.
 module _ (ws : List Write) (ss out : List ℕ) (fit : WritesFit ws) (taken : write-refusal ws ss out ≡ 0) where
-  passed : (length ws ≤ 255) × (length ss ≤ 16384) × (any-bad ss ≡ false) × (length (encode ws ss) ≤ length out)
+  passed : (length ws ≤ 255) × (length ss ≤ sample-limit) × (any-bad ss ≡ false) × (length (encode ws ss) ≤ length out)
   unfolding write-refusal
   passed =
       let (a, (b, (c, (d, u)))) =
       accepted
-      (ltb 255 (length ws) ⇒ 14 ∷ ltb 16384 (length ss) ⇒ 12 ∷ any-bad ss ⇒ 7 ∷ ltb (length out) (length (encode ws ss)) ⇒ 15 ∷ [])
+      (ltb 255 (length ws) ⇒ 14 ∷ ltb sample-limit (length ss) ⇒ 12 ∷ any-bad ss ⇒ 7 ∷ ltb (length out) (length (encode ws ss)) ⇒ 15 ∷ [])
       (omega arith, (omega arith, (omega arith, (omega arith, tt)))) taken in
       (ltb-false _ _ a, ltb-false _ _ b, c, ltb-false _ _ d)
 
@@ -105,7 +105,7 @@ pub written-again : (f out : List ℕ) → Bytes f → form-refusal f ≡ 0 → 
     → write (writes-of f) (samples-of f) out ≡ record { answer = answered (length f); buffer = f ++ drop (length f) out }
 unfolding write write-refusal
 written-again f out bytes good fine h =
-    let few : sample-count f ≤ 16384 = formed f good .few in
+    let few : sample-count f ≤ sample-limit = count-below f (λ i. byte-below f i bytes) in
     let writes : write-count f ≤ 255 = rw (field-one f 5) (omega (arith, byte-below f 5 bytes)) in
     rw (
       rewritten f bytes good,

@@ -2,9 +2,6 @@
 use mathlib.Core.List.{List}
 use Prim.Native.Nat.{ℕ}
 use Rattle.trace.specs.Reading as reading
-use Rattle.trace.specs.Stretches as stretches
-use Rattle.trace.specs.declared.Stretch.{Stretch}
-use Rattle.trace.specs.declared.Stretch.the-variants as stretch-cases
 use Rattle.trace.specs.declared.Item.{Item}
 use Rattle.trace.specs.declared.Item.the-variants as item-cases
 use Rattle.trace.specs.declared.Read.{Read}
@@ -24,15 +21,6 @@ item (item-cases.Refused e) = reading.refused (number e)
 -- What a reader found, and its place afterwards.
 abbrev pub read : Read → reading.Read
 read r = record { item = item (r .item); place = r .place }
-
--- How many samples are given, the end, or a refusal; with the array that is left.
-abbrev pub stretch : Stretch → stretches.Stretch
-stretch (stretch-cases.Samples n) = stretches.samples n
-stretch stretch-cases.End = stretches.the-end
-stretch (stretch-cases.Refused e) = stretches.refused (number e)
-
-abbrev pub given : Stretch → List ℕ → stretches.Given
-given s array = record { stretch = stretch s; array = array }
 
 -- The length of the file that was written, or a refusal; with the buffer that is left.
 abbrev pub written-length : Written → refusals.Answer ℕ

@@ -1,5 +1,5 @@
 pub mod Format
 pub mod Reading
-pub mod Stretches
+pub mod Decoding
 pub mod Writing
 pub mod Answers

@@ -1,13 +1,13 @@
--- Reading a trace file: the form checks, and the item at a place (document 01, "Trace file, version 1" and "Refusal numbers").
-use mathlib.Core.Bool.{Bool, true, false, cond, not, _&&_}
-use mathlib.Core.List.{List, [], _∷_}
+-- Reading a trace file, version 1 or 2: the form checks, and the item at a place (document 01, "Trace file, version 1" and "Refusal numbers"; request W7).
+use mathlib.Core.Bool.{Bool, true, false, cond, not, _&&_, _||_}
+use mathlib.Core.List.{List, [], _∷_, _++_}
 use Prim.Native.Nat.{ℕ, zero, suc, _+_, _-_, _*_}
 use lib.Dec.{eqb, ltb}
 use lib.ListN.{length, take, drop}
-use Rattle.refusals.specs.Refusals.{_⇒_, first}
+use Rattle.refusals.specs.Refusals.{Test, _⇒_, first}
 use Rattle.samples.specs.Samples.{bad-sample, any-bad}
 use Rattle.trace.specs.declared.Write.{Write}
-use Rattle.trace.specs.Format.{header-length, write-size, sample-size, mark, version}
+use Rattle.trace.specs.Format.{version-for, count-size, header-length, sample-size, write-start, mark}
 
 -- The number that some bytes are, little-endian; and that of n bytes of a file from a byte on.
 unfoldable pub number : List ℕ → ℕ
@@ -23,33 +23,44 @@ same [] (y ∷ ys) = false
 same (x ∷ xs) [] = false
 same (x ∷ xs) (y ∷ ys) = eqb x y && same xs ys
 
--- The header's two numbers.
+-- The header's numbers. Which bytes are the number of samples the version says.
+abbrev pub version-of : List ℕ → ℕ
+version-of file = field file 3 2
+
 abbrev pub write-count : List ℕ → ℕ
 write-count file = field file 5 1
 
 abbrev pub sample-count : List ℕ → ℕ
-sample-count file = field file 6 2
+sample-count file = field file 6 (count-size (version-of file))
 
--- The byte at which write number k, and sample number k, of a file begins; and the length that the header gives.
-abbrev pub write-start : ℕ → ℕ
-write-start k = header-length + write-size * k
-
+-- The byte at which sample number k of a file begins; and the length that the header gives.
 abbrev pub sample-start : List ℕ → ℕ → ℕ
-sample-start file k = write-start (write-count file) + sample-size * k
+sample-start file k = write-start (version-of file) (write-count file) + sample-size * k
 
 abbrev pub whole : List ℕ → ℕ
 whole file = sample-start file (sample-count file)
 
--- The form checks on opening: 13 (below 8 bytes), 10, 11, 12, 13.
-unfoldable pub form-refusal : List ℕ → ℕ
-form-refusal file =
-    first
-    (ltb (length file) header-length ⇒ 13 ∷
-    not (same (take 3 file) mark) ⇒ 10 ∷
-    not (eqb (field file 3 2) version) ⇒ 11 ∷
-    ltb 16384 (sample-count file) ⇒ 12 ∷
-    not (eqb (length file) (whole file)) ⇒ 13 ∷
-    [])
+-- The checks of a header, of which n bytes of the file are there: 13 (below 8 bytes), 10, 11, 13 (version 2 below 10 bytes), 12: the version is not that of the
+-- number of samples, which is above 16,384 in version 1, or not above it in version 2.
+abbrev pub header-checks : List ℕ → ℕ → List Test
+header-checks head n =
+    ltb n 8 ⇒ 13 ∷
+    not (same (take 3 head) mark) ⇒ 10 ∷
+    not (eqb (version-of head) 1 || eqb (version-of head) 2) ⇒ 11 ∷
+    ltb n (header-length (version-of head)) ⇒ 13 ∷
+    not (eqb (version-of head) (version-for (sample-count head))) ⇒ 12 ∷
+    []
+
+unfoldable pub header-refusal : List ℕ → ℕ → ℕ
+header-refusal head n = first (header-checks head n)
+
+-- The form checks of a file that begins with a header and has a length: those of the header, then 13 where the length is not the one that the header gives.
+unfoldable pub form-of : List ℕ → ℕ → ℕ
+form-of head n = first (header-checks head n ++ (not (eqb n (whole head)) ⇒ 13 ∷ []))
+
+-- The form checks on opening: 13, 10, 11, 13, 12, 13.
+abbrev pub form-refusal : List ℕ → ℕ
+form-refusal file = form-of file (length file)
 
 -- What stands at a place: a write, a sample, the end, or a refusal.
 pub data Item : Type 0 where
@@ -64,7 +75,7 @@ checked w = cond (bad-sample w) (refused 7) (a-sample w)
 
 -- Write number k, and sample number k, of a file.
 unfoldable pub write-at : List ℕ → ℕ → Write
-write-at file k = record { offset = field file (write-start k) 1; value = field file (write-start k + 1) 4 }
+write-at file k = record { offset = field file (write-start (version-of file) k) 1; value = field file (write-start (version-of file) k + 1) 4 }
 
 unfoldable pub sample-at : List ℕ → ℕ → ℕ
 sample-at file k = field file (sample-start file k) sample-size

@@ -1,4 +1,4 @@
--- Writing a trace file into a lent buffer (document 01, "Trace file, version 1" and "Refusal numbers").
+-- Writing a trace file into a lent buffer (document 01, "Trace file, version 1" and "Refusal numbers"; request W7).
 use mathlib.Core.Bool.{cond}
 use mathlib.Core.List.{List, [], _∷_, _++_}
 use Prim.Native.Nat.{ℕ, zero, suc}
@@ -7,14 +7,14 @@ use lib.ListN.{length, getD, drop}
 use Rattle.refusals.specs.Refusals.{_⇒_, first, Answer, answer}
 use Rattle.samples.specs.Samples.{any-bad}
 use Rattle.trace.specs.declared.Write.{Write}
-use Rattle.trace.specs.Format.{encode}
+use Rattle.trace.specs.Format.{sample-limit, encode}
 
 -- Refusals 14, 12, 7, 15 in order.
 unfoldable pub write-refusal : List Write → List ℕ → List ℕ → ℕ
 write-refusal writes samples out =
     first
     (ltb 255 (length writes) ⇒ 14 ∷
-    ltb 16384 (length samples) ⇒ 12 ∷
+    ltb sample-limit (length samples) ⇒ 12 ∷
     any-bad samples ⇒ 7 ∷
     ltb (length out) (length (encode writes samples)) ⇒ 15 ∷
     [])

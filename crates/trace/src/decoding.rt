@@ -1,16 +1,14 @@
-// The samples of a file, many at a time: a stretch of up to 64 into a lent array, and the test of all of them. The length that the form checks
-// found is the one test of the slice; within it bytes are read by plain index.
+// Samples many at a time: those of any bytes into a lent array, and the test of all of a file's. The length that the form checks found, or the slice's, is the one
+// test of the slice; within it bytes are read by plain index.
 ghost use mathlib.Core.Path.{_≡_};
-ghost use Prim.Native.Nat.{_+_, _≤_, min};
-ghost use lib.ListN.{length};
+ghost use Prim.Native.Nat.{_+_, _*_, _≤_, min};
+ghost use lib.ListN.{length, drop};
 ghost use lib.Seq.{sets};
 ghost use Rattle.refusals.specs.Table.{outcome};
 ghost use Rattle.samples.specs.Samples as samples;
 ghost use Rattle.trace.specs.Format as format;
 ghost use Rattle.trace.specs.Reading as reading;
-ghost use Rattle.trace.specs.Stretches as stretches;
-ghost use Rattle.trace.specs.Answers as trace-answers;
-use crate::Stretch;
+ghost use Rattle.trace.specs.Decoding as decodings;
 use crate::cursor::SAMPLE_SIZE;
 use crate::cursor::check_form;
 use crate::cursor::sample_count;
@@ -18,7 +16,6 @@ use crate::cursor::samples_start;
 use crate::cursor::wide;
 use refusals::Outcome;
 use refusals::Refusal;
-use samples::bad_sample;
 
 // The sample at a byte, and whether it has a bit above 17.
 fn sample_at(file: &[u8], at: usize) -> u32
@@ -67,59 +64,38 @@ pub fn check_file(file: &[u8]) -> Outcome
     Outcome::Accepted
 }
 
-// Up to n samples from number k on, before the first bad one, to the front of the array: how many.
-fn decode(file: &[u8], k: usize, n: usize, array: &mut [u32; 64]) -> usize
-    requires { ⌜ n ≤ 64 ⌝ }
-    requires { ⌜ reading.sample-start (now file) (k + n) ≤ length (now file) ⌝ }
-    ensures { λ r. ⌜ r ≡ length (stretches.good-from (now (file .entry)) k n) ⌝ }
-    ensures { λ _. ⌜ now (array .exit) ≡ sets (now (array .entry)) 0 (stretches.good-from (now (file .entry)) k n) ⌝ }
+fn fewer(n: usize, m: usize) -> usize
+    ensures { λ r. ⌜ r ≡ min n m ⌝ }
 {
-    let from = samples_start(file) + SAMPLE_SIZE * k;
-    let mut i = 0;
-    while i < n {
-        let w = sample_at(file, from + SAMPLE_SIZE * i);
-        if bad_sample(w) {
-            return i;
-        }
-        array[i] = w;
-        i += 1;
-    }
-    i
-}
-
-fn at_most_64(n: usize) -> usize
-    ensures { λ r. ⌜ r ≡ min 64 n ⌝ }
-{
-    if n < 64 {
+    if n < m {
         return n;
     }
-    64
+    m
 }
 
-// A stretch of a file of the right length.
-fn stretch(file: &[u8], k: usize, array: &mut [u32; 64]) -> Stretch
-    requires { ⌜ length (now file) ≡ reading.whole (now file) ⌝ }
-    ensures { λ r. ⌜ trace-answers.given r (now (array .exit)) ≡ stretches.given (now (file .entry)) k (now (array .entry)) ⌝ }
+// n samples from a byte on to the front of the array, whatever their bits.
+fn decode_all(bytes: &[u8], at: usize, n: usize, array: &mut [u32])
+    requires { ⌜ n ≤ length (now array) ⌝ }
+    requires { ⌜ at + format.sample-size * n ≤ length (now bytes) ⌝ }
+    ensures { λ _. ⌜ now (array .exit) ≡ sets (now (array .entry)) 0 (decodings.samples-in n (drop at (now (bytes .entry)))) ⌝ }
 {
-    let count = sample_count(file);
-    if count <= k {
-        return Stretch::End;
+    let mut i = 0;
+    while i < n {
+        array[i] = sample_at(bytes, at + SAMPLE_SIZE * i);
+        i += 1;
     }
-    let n = decode(file, k, at_most_64(count - k), array);
-    if n == 0 {
-        return Stretch::Refused(Refusal::SampleBits);
-    }
-    Stretch::Samples(n)
 }
 
-// The samples of a file from number k on, up to 64 and up to the first bad one: how many stand at the front of the array, the end, or a refusal
-// (the form checks, or 7 at sample k itself). The rest of the array stays.
-pub fn stretch_at(file: &[u8], k: usize, array: &mut [u32; 64]) -> Stretch
-    ensures { λ r. ⌜ trace-answers.given r (now (array .exit)) ≡ stretches.give (now (file .entry)) k (now (array .entry)) ⌝ }
+// The samples from a byte on, whatever their bits: those that are there whole, that the array takes, and at most as many as asked for. How many stand at the front of
+// the array; the rest of it stays.
+pub fn samples_at(bytes: &[u8], at: usize, most: usize, array: &mut [u32]) -> usize
+    ensures { λ r. ⌜ r ≡ decodings.how-many (now (bytes .entry)) at most (length (now (array .entry))) ⌝ }
+    ensures { λ r. ⌜ now (array .exit) ≡ sets (now (array .entry)) 0 (decodings.samples-in r (drop at (now (bytes .entry)))) ⌝ }
 {
-    let form = check_form(file);
-    let Outcome::Refused(refusal) = form else {
-        return stretch(file, k, array);
-    };
-    Stretch::Refused(refusal)
+    if bytes.len() < at {
+        return 0;
+    }
+    let n = fewer(array.len(), fewer(most, (bytes.len() - at) / SAMPLE_SIZE));
+    decode_all(bytes, at, n, array);
+    n
 }

@@ -1,6 +1,6 @@
-// The trace file, version 1: the form checks; one item at a time, from a slice and a place or from a reader that holds them; samples by stretches,
-// into a lent array; the writer. It knows nothing of the device. Each function answers for every slice and number, and states its answer as an
-// equation with a definition of specs/.
+// The trace file, versions 1 and 2: the form checks; one item at a time, from a slice and a place or from a reader that holds them; samples many
+// at a time, into a lent array; the writer. For a file that comes by parts, the checks of its header and of its length, and a write or sample from its bytes.
+// It knows nothing of the device. Each function answers for every slice and number, and states its answer as an equation with a definition of specs/.
 
 mod cursor;
 mod decoding;
@@ -8,10 +8,17 @@ mod reader;
 mod writer;
 
 pub use cursor::check_form;
+pub use cursor::check_header;
+pub use cursor::form_of;
+pub use cursor::header_length;
 pub use cursor::item_at;
+pub use cursor::sample_count;
+pub use cursor::sample_in;
+pub use cursor::samples_start;
 pub use cursor::write_count;
+pub use cursor::write_in;
 pub use decoding::check_file;
-pub use decoding::stretch_at;
+pub use decoding::samples_at;
 pub use reader::Reader;
 pub use reader::next;
 pub use reader::open;
@@ -30,13 +37,6 @@ pub struct Write {
 pub enum Item {
     Write(Write),
     Sample(u32),
-    End,
-    Refused(Refusal),
-}
-
-// Samples of a file, as many as it says, that stand in the array lent beside it.
-pub enum Stretch {
-    Samples(usize),
     End,
     Refused(Refusal),
 }

@@ -1,17 +1,18 @@
 // The writer: a trace file of some writes and samples into a lent buffer.
 ghost use mathlib.Core.Path.{_≡_};
 ghost use mathlib.Core.List.{_++_};
-ghost use Prim.Native.Nat.{_+_, _*_, _≤_};
+ghost use Prim.Native.Nat.{_+_, _*_, _^_, _≤_, _<_};
 ghost use lib.ListN.{length};
 ghost use lib.Seq.{sets};
 ghost use Rattle.trace.specs.Format as format;
-ghost use Rattle.trace.specs.Reading as reading;
 ghost use Rattle.trace.specs.Writing as writing;
 ghost use Rattle.trace.specs.Answers as trace-answers;
 use crate::Written;
-use crate::cursor::HEADER_LENGTH;
 use crate::cursor::SAMPLE_SIZE;
 use crate::cursor::WRITE_SIZE;
+use crate::cursor::count_size;
+use crate::cursor::header_size;
+use crate::cursor::version_for;
 use crate::cursor::wide;
 use refusals::Refusal;
 use samples::any_bad;
@@ -32,15 +33,24 @@ fn put(out: &mut [u8], at: usize, n: usize, x: u32)
     }
 }
 
+// The bytes of the header of a file with that many samples.
+fn header_for(samples: usize) -> usize
+    ensures { λ r. ⌜ r ≡ format.header-length (format.version-for samples) ⌝ }
+    ensures { λ r. ⌜ r < 2 ^ 4 ⌝ }
+{
+    header_size(version_for(samples))
+}
+
 // The mark, the version and the two numbers.
 fn put_header(out: &mut [u8], writes: u32, samples: u32)
-    requires { ⌜ format.header-length ≤ length (now out) ⌝ }
+    requires { ⌜ format.header-length (format.version-for samples) ≤ length (now out) ⌝ }
     ensures { λ _. ⌜ now (out .exit) ≡ sets (now (out .entry)) 0 (format.header writes samples) ⌝ }
 {
+    let version = version_for(samples as usize);
     put(out, 0, 3, 0x544746);
-    put(out, 3, 2, 1);
+    put(out, 3, 2, version);
     put(out, 5, 1, writes);
-    put(out, 6, 2, samples);
+    put(out, 6, count_size(version), samples);
 }
 
 // The offset and the value of a write, from a byte on.
@@ -52,15 +62,15 @@ fn put_write(out: &mut [u8], at: usize, offset: u8, value: u32)
     put(out, at + 1, 4, value);
 }
 
-// The writes, behind the header.
-fn put_writes(out: &mut [u8], count: usize, offsets: &[u8; 255], values: &[u32; 255])
+// The writes, from a byte on.
+fn put_writes(out: &mut [u8], at: usize, count: usize, offsets: &[u8; 255], values: &[u32; 255])
     requires { ⌜ count ≤ 255 ⌝ }
-    requires { ⌜ reading.write-start count ≤ length (now out) ⌝ }
-    ensures { λ _. ⌜ now (out .exit) ≡ sets (now (out .entry)) format.header-length (format.write-bytes (writing.given count (now (offsets .entry)) (now (values .entry)))) ⌝ }
+    requires { ⌜ at + format.write-size * count ≤ length (now out) ⌝ }
+    ensures { λ _. ⌜ now (out .exit) ≡ sets (now (out .entry)) at (format.write-bytes (writing.given count (now (offsets .entry)) (now (values .entry)))) ⌝ }
 {
     let mut i = 0;
     while i < count {
-        put_write(out, HEADER_LENGTH + WRITE_SIZE * i, offsets[i], values[i]);
+        put_write(out, at + WRITE_SIZE * i, offsets[i], values[i]);
         i += 1;
     }
 }
@@ -79,16 +89,17 @@ fn put_samples(out: &mut [u8], at: usize, samples: &[u32])
 
 // The whole file, from the first byte on.
 fn put_file(out: &mut [u8], count: usize, offsets: &[u8; 255], values: &[u32; 255], samples: &[u32])
-    requires { ⌜ (count ≤ 255) × (length (now samples) ≤ 16384) × (reading.write-start count + format.sample-size * length (now samples) ≤ length (now out)) ⌝ }
+    requires { ⌜ (count ≤ 255) × (length (now samples) ≤ format.sample-limit) × (format.write-start (format.version-for (length (now samples))) count + format.sample-size * length (now samples) ≤ length (now out)) ⌝ }
     ensures { λ _. ⌜ now (out .exit) ≡ sets (now (out .entry)) 0 (format.encode (writing.given count (now (offsets .entry)) (now (values .entry))) (now (samples .entry))) ⌝ }
 {
+    let header = header_for(samples.len());
     put_header(out, count as u32, samples.len() as u32);
-    put_writes(out, count, offsets, values);
-    put_samples(out, HEADER_LENGTH + WRITE_SIZE * count, samples);
+    put_writes(out, header, count, offsets, values);
+    put_samples(out, header + WRITE_SIZE * count, samples);
 }
 
-// A trace file of the first writes, as many as the count says, and the samples: its length, or a refusal, 14, 12, 7 or 15. Refused, every byte of
-// the buffer stays; accepted, the bytes after the file stay.
+// A trace file of the first writes, as many as the count says, and the samples, in the version that their number says: its length, or a refusal, 14,
+// 12, 7 or 15. Refused, every byte of the buffer stays; accepted, the bytes after the file stay.
 pub fn encode(
     count: usize,
     offsets: &[u8; 255],
@@ -101,13 +112,14 @@ pub fn encode(
     if 255 < count {
         return Written::Refused(Refusal::WriteCount);
     }
-    if 16384 < samples.len() {
+    if 4294967295 < samples.len() {
         return Written::Refused(Refusal::SampleCount);
     }
     if any_bad(samples) {
         return Written::Refused(Refusal::SampleBits);
     }
-    let length = HEADER_LENGTH + WRITE_SIZE * count + SAMPLE_SIZE * samples.len();
+    let header = header_for(samples.len());
+    let length = header + WRITE_SIZE * count + SAMPLE_SIZE * samples.len();
     if out.len() < length {
         return Written::Refused(Refusal::Room);
     }

@@ -10,7 +10,8 @@ use Rattle.sampling.proofs.AcceptedRuns.{tail-part, put-tail}
 use Rattle.rules.proofs.WellFormed.{facts}
 use Rattle.rules.specs.Run.{Ran, run, run-refusal}
 use Rattle.trace.specs.Reading.{samples-of}
-use Rattle.trace.proofs.Rewritten.{length-samples-of, formed}
+use Rattle.trace.proofs.Fields.{count-below}
+use Rattle.trace.proofs.Rewritten.{length-samples-of}
 use Rattle.files.proofs.Samples.{accepted-file, refused-file}
 use Rattle.files.proofs.run_samples.Statement.{statement}
 use Rattle.files.proofs.run_samples.Tie as tie
@@ -22,7 +23,7 @@ returns c = rw (c .refused .ensures, c .before .before .before .before .pre .0, 
 steps-requires : tie.Need-steps-requires
 steps-requires c κs =
     let pre = c .before .before .before .before .before .before .before .pre in
-    (facts _ (pre .0), (pre .1 .0, sym (c .before .before .before .check-file .ensures) ∙ ap outcome (c .before .enum-told .given .1)))
+    (facts _ (pre .0), (pre .1 .0, pre .1 .1))
 
 returns-2 : tie.Need-returns-2
 unfolding run run-refusal
@@ -30,15 +31,14 @@ returns-2 c =
     let a = c .before .before .before .before .before .before .before .before .before .before .args in
     let pre = c .before .before .before .before .before .before .before .before .before .before .pre in
     let good = accepted-file _ (sym (c .before .before .before .before .before .before .check-file .ensures) ∙ ap outcome (c .before .before .before .before .enum-told .given .1)) .1 in
-    let fits : a .d .core .output .counts .samples + length (samples-of (a .file .now)) ≤ 4294967295 = omega (arith, length-samples-of (a .file .now), pre .1 .0, formed _ (pre .1 .1) .few) in
-    let ran = rw tail-part at (c .before .before .steps .ensures .1) in
+    let fits : a .d .core .output .counts .samples + length (samples-of (a .file .now)) ≤ 4294967295 = omega (arith, length-samples-of (a .file .now), pre .1 .0, count-below (a .file .now) (λ i. c .before .before .before .before .before .before .before .before .before .shared-slice-known .given i .fits)) in
+    let ran = rw tail-part at (c .before .before .steps .ensures) in
     rw (
       pre .0,
       le-ltb _ _ (c .before .before .before .before .before .before .before .if1 .left),
       good,
       le-ltb _ _ fits,
       put-tail,
-      c .before .before .steps .ensures .0,
       ap (λ (x : Ran). x .device) ran,
       ap (λ (x : Ran). x .buffer) ran,
     )

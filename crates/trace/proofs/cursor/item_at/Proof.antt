@@ -1,46 +1,52 @@
 -- `trace::cursor::item_at` meets its contract.
 use borrow.Author.Needs.{needs}
 use borrow.Author.Tests.{le-ltb, lt-ltb}
+use mathlib.Core.Path.{_∙_}
 use native.Mathlib.Omega.{arith}
+use Prim.Native.Nat.{_-_}
 use Rattle.trace.specs.Answers as trace-answers
-use Rattle.trace.specs.Reading.{item, past, sample-at, write-at}
+use Rattle.trace.specs.Reading.{item, past, write-at}
+use Rattle.trace.proofs.ManySamples.{sample-here}
 use Rattle.trace.proofs.Walk.{past-next}
 use Rattle.trace.proofs.cursor.item_at.Statement.{statement}
 use Rattle.trace.proofs.cursor.item_at.Tie as tie
 
 returns : tie.Need-returns
-unfolding item write-at sample-at past
+unfolding item write-at past
 returns c = (
   rw (
-    ← c .before .before .before .one .ensures,
-    lt-ltb _ _ (c .before .before .if1 .taken),
-    ← c .before .one2 .ensures,
+    ← c .before .before .before .before .write-count .ensures .0,
+    lt-ltb _ _ (c .before .before .before .if1 .taken),
+    ← c .before .before .header-length .ensures .0,
+    ← c .before .one .ensures,
     ← c .four .ensures,
   ),
-  omega (arith, c .before .before .if1 .taken),
+  omega (arith, c .before .before .before .if1 .taken),
 )
 
 returns-2 : tie.Need-returns-2
-unfolding item write-at sample-at past
-returns-2 c = (
-  rw (
-    ← c .before .before .before .before .before .one .ensures,
-    le-ltb _ _ (c .before .before .before .before .if1 .left),
-    ← c .before .before .before .two .ensures .0,
-    lt-ltb _ _ (c .before .before .if2 .taken),
-    ← c .before .three .ensures .0,
-    ← c .checked .ensures,
-  ),
-  omega (arith, past-next (c .before .before .before .before .before .before .before .args .place) (trace-answers.item (c .checked .result)), c .before .before .if2 .taken),
-)
+unfolding item
+returns-2 c =
+    let a = c .before .before .before .before .before .before .before .before .args in
+    let w = c .before .three .ensures .0 ∙ sample-here (a .file .now) _ (a .place - c .before .before .before .before .before .before .write-count .result) (omega (arith, c .before .before .samples-start .ensures .0)) in (
+      rw (
+        ← c .before .before .before .before .sample-count .ensures .0,
+        ← c .before .before .before .before .before .before .write-count .ensures .0,
+        le-ltb _ _ (c .before .before .before .before .before .if1 .left),
+        lt-ltb _ _ (c .before .before .before .if2 .taken),
+        ← w,
+        ← c .checked .ensures,
+      ),
+      omega (arith, past-next (a .place) (trace-answers.item (c .checked .result)), c .before .before .before .if2 .taken),
+    )
 
 returns-3 : tie.Need-returns-3
-unfolding item write-at sample-at past
+unfolding item past
 returns-3 c = (
   rw (
-    ← c .before .before .before .one .ensures,
+    ← c .before .before .before .write-count .ensures .0,
     le-ltb _ _ (c .before .before .if1 .left),
-    ← c .before .two .ensures .0,
+    ← c .before .sample-count .ensures .0,
     le-ltb _ _ (c .if2 .left),
   ),
   search needs,
@@ -51,7 +57,7 @@ item-at-spec =
     tie.close
     (tie.spec
     (λ c κs. search needs)
-    (λ c. search needs)
+    (λ c κs. search needs)
     (λ c. search needs)
     (λ c. search needs)
     (λ c κs. search needs)
@@ -60,9 +66,7 @@ item-at-spec =
     returns
     (λ c κs. search needs)
     (λ c. search needs)
-    (λ c. search needs)
-    (λ c. search needs)
-    (λ c. search needs)
+    (λ c κs. search needs)
     (λ c. search needs)
     (λ c. search needs)
     (λ c κs. search needs)

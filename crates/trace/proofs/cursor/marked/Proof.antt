@@ -9,7 +9,7 @@ use Rattle.trace.proofs.cursor.marked.Tie as tie
 returns : tie.Need-returns
 returns c =
     rw (
-      mark-bytes (now (c .before .before .before .before .before .before .args .file)) (c .before .before .before .before .before .before .pre),
+      mark-bytes (now (c .before .before .before .before .before .before .args .file)),
       ← c .before .before .before .before .byte .ensures,
       eq-eqb _ _ (c .before .before .before .if1 .taken),
       ← c .before .before .byte2 .ensures,
@@ -20,7 +20,7 @@ returns c =
 returns-2 : tie.Need-returns-2
 returns-2 c =
     rw (
-      mark-bytes (now (c .before .before .before .before .before .args .file)) (c .before .before .before .before .before .pre),
+      mark-bytes (now (c .before .before .before .before .before .args .file)),
       ← c .before .before .before .byte .ensures,
       eq-eqb _ _ (c .before .before .if1 .taken),
       ← c .before .byte2 .ensures,
@@ -30,7 +30,7 @@ returns-2 c =
 returns-3 : tie.Need-returns-3
 returns-3 c =
     rw (
-      mark-bytes (now (c .before .before .before .args .file)) (c .before .before .before .pre),
+      mark-bytes (now (c .before .before .before .args .file)),
       ← c .before .byte .ensures,
       ne-eqb _ _ (c .if1 .left),
     )

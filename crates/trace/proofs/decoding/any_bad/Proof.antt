@@ -8,7 +8,7 @@ use native.Mathlib.Omega.{arith}
 use Rattle.bits.proofs.Booleans.{or-unit, or-true}
 use Rattle.samples.specs.Samples.{bad-sample, any-bad}
 use Rattle.trace.specs.Reading.{sample-count, samples-from, samples-of}
-use Rattle.trace.proofs.Stretches.{sample-here, samples-next, samples-over}
+use Rattle.trace.proofs.ManySamples.{sample-here, samples-next, samples-over}
 use Rattle.trace.proofs.decoding.any_bad.Statement.{statement}
 use Rattle.trace.proofs.decoding.any_bad.Tie as tie
 

@@ -3,7 +3,7 @@ use borrow.Author.Needs.{needs}
 use denote.Ref.{now}
 use native.Mathlib.Omega.{arith}
 use Prim.Native.Nat.{_+_}
-use Rattle.trace.proofs.Stretches.{bad-third}
+use Rattle.trace.proofs.ManySamples.{bad-third}
 use Rattle.trace.proofs.decoding.bad_at.Statement.{statement}
 use Rattle.trace.proofs.decoding.bad_at.Tie as tie
 

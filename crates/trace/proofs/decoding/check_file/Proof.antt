@@ -4,7 +4,7 @@ use mathlib.Core.Path.{sym, ap, _∙_}
 use Rattle.refusals.proofs.Numbered.{never-zero}
 use Rattle.refusals.specs.Table.{outcome}
 use Rattle.trace.specs.Reading.{file-refusal}
-use Rattle.trace.proofs.Rewritten.{formed}
+use Rattle.trace.proofs.Form.{formed}
 use Rattle.trace.proofs.decoding.check_file.Statement.{statement}
 use Rattle.trace.proofs.decoding.check_file.Tie as tie
 
@@ -13,7 +13,7 @@ unfolding file-refusal
 returns c = rw (← c .before .before .check-form .ensures, c .enum-told2 .given .1, never-zero (c .enum-told2 .given .0 .0))
 
 any-bad-requires : tie.Need-any-bad-requires
-any-bad-requires c κs = formed _ (sym (c .before .before .check-form .ensures) ∙ ap outcome (c .enum-told .given .1)) .exact
+any-bad-requires c κs = formed _ _ (sym (c .before .before .check-form .ensures) ∙ ap outcome (c .enum-told .given .1)) .exact
 
 returns-2 : tie.Need-returns-2
 unfolding file-refusal

@@ -1,7 +1,7 @@
 -- `trace::decoding::sample_at` meets its contract: three bytes are the number of the three.
 use borrow.Author.Needs.{needs}
 use denote.Ref.{now}
-use Rattle.trace.proofs.Stretches.{field-three}
+use Rattle.trace.proofs.ManySamples.{field-three}
 use Rattle.trace.proofs.decoding.sample_at.Statement.{statement}
 use Rattle.trace.proofs.decoding.sample_at.Tie as tie
 

@@ -2,11 +2,10 @@
 use borrow.Author.Needs.{needs}
 use borrow.Author.Tests.{le-ltb, lt-ltb}
 use lib.ListN.{length}
-use mathlib.Core.Path.{_≡_, _∙_}
+use native.Mathlib.Omega.{arith}
 use Prim.Native.Nat.{_+_, _*_}
-use Rattle.trace.specs.Format.{sample-size, encode}
+use Rattle.trace.specs.Format.{write-size, sample-size, encode}
 use Rattle.trace.specs.Writing.{write, write-refusal, given}
-use Rattle.trace.specs.Reading.{write-start}
 use Rattle.trace.proofs.Filling.{length-given, put-over}
 use Rattle.trace.proofs.ReadBack.{length-encode}
 use Rattle.trace.proofs.writer.encode.Statement.{statement}
@@ -26,22 +25,33 @@ returns-3 c = rw (length-given, le-ltb _ _ (c .before .before .before .if1 .left
 
 returns-4 : tie.Need-returns-4
 unfolding write write-refusal
-returns-4 c = rw (length-given, le-ltb _ _ (c .before .before .before .before .if1 .left), le-ltb _ _ (c .before .before .before .if2 .left), ← c .before .before .any-bad .ensures, c .before .if3 .left, length-encode, length-given, lt-ltb _ _ (c .if4 .taken))
+returns-4 c =
+    let a = c .before .before .before .before .before .before .before .before .args in
+    rw (
+      length-given,
+      le-ltb _ _ (c .before .before .before .before .before .if1 .left),
+      le-ltb _ _ (c .before .before .before .before .if2 .left),
+      ← c .before .before .before .any-bad .ensures,
+      c .before .before .if3 .left,
+      length-encode,
+      length-given,
+      ← c .before .header-for .ensures .0,
+      lt-ltb (length (a .out .now)) (c .before .header-for .result + write-size * a .count + sample-size * length (a .samples .now)) (omega (arith, c .if4 .taken)),
+    )
 
 returns-5 : tie.Need-returns-5
 unfolding write write-refusal
 returns-5 c =
-    let a = c .before .before .before .before .before .before .before .before .before .before .before .args in
+    let a = c .before .before .before .before .before .before .before .before .before .before .before .before .args in
     let ws = given (a .count) (a .offsets .now) (a .values .now) in
-    let long : length (encode ws (a .samples .now)) ≡ write-start (a .count) + sample-size * length (a .samples .now) =
-    length-encode ws (a .samples .now) ∙ rw (length-given (a .offsets .now) (a .values .now) 0 (a .count)) in
+    let long = rw (length-given (a .offsets .now) (a .values .now) 0 (a .count), ← c .before .before .before .before .before .header-for .ensures .0) at (length-encode ws (a .samples .now)) in
     rw (
       long,
       length-given (a .offsets .now) (a .values .now) 0 (a .count),
-      le-ltb _ _ (c .before .before .before .before .before .before .before .before .if1 .left),
-      le-ltb _ _ (c .before .before .before .before .before .before .before .if2 .left),
-      ← c .before .before .before .before .before .before .any-bad .ensures,
-      c .before .before .before .before .before .if3 .left,
+      le-ltb _ _ (c .before .before .before .before .before .before .before .before .before .if1 .left),
+      le-ltb _ _ (c .before .before .before .before .before .before .before .before .if2 .left),
+      ← c .before .before .before .before .before .before .before .any-bad .ensures,
+      c .before .before .before .before .before .before .if3 .left,
       le-ltb _ _ (c .before .before .before .before .if4 .left),
       c .before .before .put-file .ensures,
       put-over (a .out .now) (encode ws (a .samples .now)) _ long (c .before .before .before .before .if4 .left),
@@ -55,6 +65,7 @@ encode-spec =
     returns-2
     (λ c κs. search needs)
     returns-3
+    (λ c κs. search needs)
     (λ c. search needs)
     (λ c. search needs)
     (λ c. search needs)

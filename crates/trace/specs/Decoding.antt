@@ -1,0 +1,15 @@
+-- Samples many at a time, from any bytes into a lent array (document 01, "Trace file, version 1"; request W7): a part of a file need not begin with a header.
+use mathlib.Core.List.{List, [], _∷_}
+use Prim.Native.Nat.{ℕ, zero, suc, _-_, _/_, min}
+use lib.ListN.{length, drop}
+use Rattle.trace.specs.Format.{sample-size}
+use Rattle.trace.specs.Reading.{field}
+
+-- n samples from the first byte on, whatever their bits.
+unfoldable pub samples-in : ℕ → List ℕ → List ℕ
+samples-in zero bytes = []
+samples-in (suc n) bytes = field bytes 0 sample-size ∷ samples-in n (drop sample-size bytes)
+
+-- How many are given from a byte on: those that are there whole, that the array has room for, and at most as many as asked for.
+unfoldable pub how-many : List ℕ → ℕ → ℕ → ℕ → ℕ
+how-many bytes at most room = min room (min most ((length bytes - at) / sample-size))
