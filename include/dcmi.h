@@ -159,7 +159,7 @@ static inline uint32_t dcmi_run(dcmi_device *device, uint8_t *memory, size_t len
 }
 
 /* A trace file of either version on a fresh device with a FIFO of four words: its writes, then its samples as one run. *device is written only, and
- * becomes the device after the file. Refusals 13 (below 8 bytes), 10, 11, 13 (version 2 below 10), 12, 13, the first refused write's number, 9, 7, 8 in
+ * becomes the device after the file. Refusals 13 (below 8 bytes), 10, 11, 13 (version 2 below 10), 12, 13, the first refused write's number, 9, 7 in
  * order. */
 static inline uint32_t dcmi_run_file(dcmi_device *device, const uint8_t *file, size_t file_length, uint8_t *memory, size_t length, size_t start)
 {

@@ -433,7 +433,7 @@ static uint32_t header_refusal(const uint8_t *file, uint64_t length, layout *l)
     return 0;
 }
 
-/* W9: 18 first. Then the form checks, the first refused write's number, 9, 7, on a fresh device; 8 cannot come, because the count fits 32 bits. */
+/* W9: 18 first. Then the form checks, the first refused write's number, 9, 7, on a fresh device (W8: neither 1 nor 8). */
 uint32_t model_run_file_depth(camera *c, uint32_t depth, const uint8_t *file, size_t file_length, uint8_t *memory, size_t length, size_t start)
 {
     layout l;

@@ -1,13 +1,16 @@
 -- Running a trace file on a fresh device (document 01, "Refusal numbers"): its form, its register writes, one run of its samples.
 use mathlib.Core.Bool.{cond}
-use mathlib.Core.List.{List, [], _∷_}
+use mathlib.Core.List.{List, [], _∷_, _++_}
 use Prim.Native.Nat.{ℕ}
-use lib.Dec.{eqb}
+use lib.Dec.{eqb, ltb}
+use lib.ListN.{length, take, drop}
+use Rattle.refusals.specs.Refusals.{_⇒_, first}
+use Rattle.samples.specs.Samples.{any-bad}
 use Rattle.rules.specs.declared.Device.{Device}
 use Rattle.rules.specs.State.{fresh}
 use Rattle.rules.specs.Answers.{Changed}
 use Rattle.rules.specs.RegisterCalls.{write, made}
-use Rattle.rules.specs.Run.{RunResult, run}
+use Rattle.rules.specs.Run.{RunResult, steps}
 use Rattle.trace.specs.declared.Write.{Write}
 use Rattle.trace.specs.Reading.{form-refusal, writes-of, samples-of}
 
@@ -20,16 +23,24 @@ set-up d (w ∷ ws) = cond (eqb (write d (w .offset) (w .value) .number) 0) (set
 abbrev pub refused : ℕ → List ℕ → RunResult
 refused number memory = record { number = number; device = fresh; memory = memory }
 
-abbrev pub or-fresh : RunResult → RunResult
-or-fresh r = cond (eqb (r .number) 0) r (refused (r .number) (r .memory))
+-- The samples of a file as one run, on the device that its writes left: refusals 9, 7. Any other run has 1 and 8 as well, which no file can give (W8):
+-- `proofs/WholeOrder.antt` shows that a file is run alike with them.
+unfoldable pub samples-refusal : List ℕ → ℕ → List ℕ → ℕ
+samples-refusal memory start samples = first (ltb (length memory) start ⇒ 9 ∷ any-bad samples ⇒ 7 ∷ [])
 
--- The writes, then the samples as one run, on a device d.
+unfoldable pub run-samples : Device → List ℕ → ℕ → List ℕ → RunResult
+run-samples d memory start samples =
+    let number = samples-refusal memory start samples in
+    let r = steps d (drop start memory) samples in
+    cond (eqb number 0) (record { number = 0; device = r .device; memory = take start memory ++ r .buffer }) (refused number memory)
+
+-- The writes, then the samples, on a device d.
 unfoldable pub run-content : Device → List Write → List ℕ → List ℕ → ℕ → RunResult
 run-content d writes samples memory start =
     let ready = set-up d writes in
-    cond (eqb (ready .number) 0) (or-fresh (run (ready .device) memory start samples)) (refused (ready .number) memory)
+    cond (eqb (ready .number) 0) (run-samples (ready .device) memory start samples) (refused (ready .number) memory)
 
--- 13, 10, 11, 13, 12, 13, the first refused write's number, 9, 7, 8; or device and memory after the file.
+-- 13, 10, 11, 13, 12, 13, the first refused write's number, 9, 7; or device and memory after the file.
 unfoldable pub run-on : Device → List ℕ → List ℕ → ℕ → RunResult
 run-on d file memory start =
     cond (eqb (form-refusal file) 0)

@@ -109,7 +109,7 @@ fn run_samples(d: Device, file: &[u8], memory: &mut [u8], start: usize) -> Chang
     requires { ⌜ malformed d ≡ false ⌝ }
     requires { ⌜ d .core .output .counts .samples ≡ 0 ⌝ }
     requires { ⌜ reading.form-refusal (now file) ≡ 0 ⌝ }
-    ensures { λ r. ⌜ device-answers.ran r (now (memory .exit)) ≡ file-rules.or-fresh (run-rules.run d (now (memory .entry)) start (reading.samples-of (now (file .entry)))) ⌝ }
+    ensures { λ r. ⌜ device-answers.ran r (now (memory .exit)) ≡ file-rules.run-samples d (now (memory .entry)) start (reading.samples-of (now (file .entry))) ⌝ }
 {
     if memory.len() < start {
         return refused(Refusal::StartBeyond);
@@ -152,7 +152,7 @@ fn run_on(fresh: Device, file: &[u8], memory: &mut [u8], start: usize) -> Change
     refused(refusal)
 }
 
-// A trace file on a fresh device, over the memory from the start byte on. Refusals 13, 10, 11, 13, 12, 13, the first refused write's number, 9, 7, 8; refused, the
+// A trace file on a fresh device, over the memory from the start byte on. Refusals 13, 10, 11, 13, 12, 13, the first refused write's number, 9, 7; refused, the
 // device is a fresh one.
 pub fn run_file(file: &[u8], memory: &mut [u8], start: usize) -> Changed
     ensures { λ r. ⌜ device-answers.ran r (now (memory .exit)) ≡ file-rules.run-file (now (file .entry)) (now (memory .entry)) start ⌝ }

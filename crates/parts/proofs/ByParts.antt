@@ -13,32 +13,22 @@ use Rattle.samples.specs.Samples.{bad-sample, any-bad}
 use Rattle.rules.specs.declared.Device.{Device}
 use Rattle.rules.specs.State.{fresh}
 use Rattle.rules.specs.Answers.{Changed}
-use Rattle.rules.specs.RegisterCalls.{write, made}
+use Rattle.rules.specs.RegisterCalls.{made}
 use Rattle.rules.specs.WellFormed.{malformed}
 use Rattle.rules.specs.Run.{RunResult, run, run-refusal, steps}
-use Rattle.trace.specs.declared.Write.{Write}
 use Rattle.trace.specs.Format.{header-length, sample-size}
 use Rattle.trace.specs.Reading.{version-of, sample-count, sample-start, whole, header-refusal, form-of, form-refusal, writes-of, samples-from, samples-of}
-use Rattle.trace.proofs.Fields.{count-below}
 use Rattle.trace.proofs.Rewritten.{length-samples-from}
-use Rattle.files.specs.File.{set-up, or-fresh, run-content, run-on, run-file, run-file-of}
-use Rattle.files.proofs.SettingUp.{write-samples, made-ready, fresh-ready}
+use Rattle.files.specs.File.{set-up, run-content, run-on, run-file, run-file-of}
+use Rattle.files.specs.WholeOrder.{or-fresh, whole-order}
+use Rattle.files.proofs.SettingUp.{made-ready, fresh-ready}
+use Rattle.files.proofs.WholeOrder.{after-writes, count-fits, with-whole-order}
 use Rattle.trace.proofs.Form.{form-after-header}
 use Rattle.parts.specs.Parts.{State, Taken, opened, end-refusal, ended, good-from, samples-there, left-by, run-parts, joined}
 use Rattle.parts.proofs.Taking.{parts-joined}
 use Rattle.parts.proofs.Singles.{by-bool, singles, good, singles-run, run-none, not-bad}
 use Rattle.parts.proofs.Header.{Passed, Stopped, all-bytes, by-header}
 use Rattle.parts.proofs.Finish.{behind, cut-writes, write-refused, count-there, ran, samples-taken}
-
--- Writes count no sample.
-set-up-samples : (ws : List Write) (d : Device) → set-up d ws .device .core .output .counts .samples ≡ d .core .output .counts .samples
-unfolding set-up
-set-up-samples [] d = refl
-set-up-samples (w ∷ ws) d =
-    let r = write d (w .offset) (w .value) in
-    by-cond (λ (c : Changed). c .device .core .output .counts .samples ≡ d .core .output .counts .samples) (eqb (r .number) 0) _ _
-    (λ _. set-up-samples ws (r .device) ∙ write-samples d (w .offset) (w .value))
-    (λ _. write-samples d (w .offset) (w .value))
 
 -- The good samples of a file, from the list of them.
 good-samples : (f : List ℕ) (n k : ℕ) → good-from f k n ≡ good (samples-from f k n)
@@ -66,44 +56,43 @@ end-number : (s : State) (m : List ℕ) (start x : ℕ) → form-of (s .head) (s
 unfolding ended end-refusal
 end-number s m start x e n some = rw (e, n, some, some)
 
-end-fine : (s : State) (m : List ℕ) (start : ℕ) → form-of (s .head) (s .taken) ≡ 0 → s .number ≡ 0 → malformed (s .device) ≡ false → start ≤ length m
+end-fine : (s : State) (m : List ℕ) (start : ℕ) → form-of (s .head) (s .taken) ≡ 0 → s .number ≡ 0 → start ≤ length m
     → ended s m start ≡ record { number = 0; device = s .device }
 unfolding ended end-refusal
-end-fine s m start e n well within = rw (e, n, well, le-ltb _ _ within)
+end-fine s m start e n within = rw (e, n, le-ltb _ _ within)
 
 -- With no sample the end finds what a run of none does.
-end-none : (s : State) (d : Device) (m : List ℕ) (start : ℕ) → form-of (s .head) (s .taken) ≡ 0 → s .number ≡ 0 → s .device ≡ d → d .core .output .counts .samples + 0 ≤ 4294967295
+end-none : (s : State) (d : Device) (m : List ℕ) (start : ℕ) → form-of (s .head) (s .taken) ≡ 0 → s .number ≡ 0 → s .device ≡ d → malformed d ≡ false → d .core .output .counts .samples + 0 ≤ 4294967295
     → let r = or-fresh (run d m start []) in ended s m start ≡ record { number = r .number; device = r .device }
 unfolding ended end-refusal run run-refusal any-bad steps
-end-none s d m start e n is fits = rw (e, n, is, le-ltb _ _ fits) (go (malformed d) (ltb (length m) start))
+end-none s d m start e n is well fits = rw (e, n, is, well, le-ltb _ _ fits) (go (ltb (length m) start))
   where
-    go : (a b : Bool)
-        → let n : ℕ = cond a 1 (cond b 9 0) in
+    go : (b : Bool)
+        → let n : ℕ = cond b 9 0 in
         let r = or-fresh (record { number = n; device = cond (eqb n 0) d d; memory = cond (eqb n 0) (take start m ++ drop start m) m }) in _≡_ {A = Changed} (record { number = n; device = cond (eqb n 0) d fresh }) (record { number = r .number; device = r .device })
-    go true b = refl
-    go false true = refl
-    go false false = refl
+    go true = refl
+    go false = refl
 
 -- Samples as runs of one, and the end: what a run of all of them does.
 end-run : (s : State) (start : ℕ) (d : Device) (m ws : List ℕ) → form-of (s .head) (s .taken) ≡ 0 → s .number ≡ singles start d m ws .number → s .device ≡ singles start d m ws .device
-    → d .core .output .counts .samples + length ws ≤ 4294967295
+    → malformed d ≡ false → d .core .output .counts .samples + length ws ≤ 4294967295
     → let r = or-fresh (run d m start ws) in ended s (singles start d m ws .memory) start ≡ record { number = r .number; device = r .device }
 unfolding singles
-end-run s start d m [] e n is fits = end-none s d m start e n is fits
-end-run s start d m (w ∷ ws) e n is fits =
+end-run s start d m [] e n is well fits = end-none s d m start e n is well fits
+end-run s start d m (w ∷ ws) e n is well fits =
     let same = singles-run start d m (w ∷ ws) fits in
     let some : 0 < length (w ∷ ws) = omega arith in
     by-bool (eqb (run d m start (w ∷ ws) .number) 0)
     (λ taken.
     let zero-number = same .number some ∙ eqb-true _ 0 taken in
-    end-fine s _ start e (n ∙ zero-number) (rw is (same .well zero-number some)) (same .within zero-number some)
+    end-fine s _ start e (n ∙ zero-number) (same .within zero-number some)
     ∙ (let a : 0 ≡ run d m start (w ∷ ws) .number = sym (eqb-true (run d m start (w ∷ ws) .number) 0 taken) in
     let b : s .device ≡ run d m start (w ∷ ws) .device = is ∙ ap (λ (r : RunResult). r .device) (same .whole zero-number some) in
     rw taken (λ i. record { number = a i; device = b i })))
     (λ refused. end-number s _ start (run d m start (w ∷ ws) .number) e (n ∙ same .number some) refused ∙ rw refused)
 
--- A file on a device that has counted no sample, of bytes.
-module _ (start : ℕ) (d : Device) (m f : List ℕ) (bytes : (i : ℕ) → getD f i 0 < 256) (none : d .core .output .counts .samples ≡ 0) where
+-- A file of bytes, on a device that is not malformed and has counted no sample.
+module _ (start : ℕ) (d : Device) (m f : List ℕ) (bytes : (i : ℕ) → getD f i 0 < 256) (well : malformed d ≡ false) (none : d .core .output .counts .samples ≡ 0) where
   -- What the end is to answer, and what memory is left.
   pub record Answers (t : Taken) : Type 0 where
     pub answer : let r = run-on d f m start in ended (t .state) (t .memory) start ≡ record { number = r .number; device = r .device }
@@ -162,7 +151,7 @@ module _ (start : ℕ) (d : Device) (m f : List ℕ) (bytes : (i : ℕ) → getD
 
         fits : (k : ℕ) → k ≤ sample-count f → ready .device .core .output .counts .samples + length (samples-from f 0 k) ≤ 4294967295
         unfolding ready
-        fits k low = rw (set-up-samples (writes-of f) d, none, length-samples-from f 0 k) (omega (arith, count-below f bytes))
+        fits k low = rw (length-samples-from f 0 k) (omega (arith, count-fits f bytes d well none .1))
 
         left : all .memory ≡ left-by d f m start
         unfolding all left-by samples-there ready n count-there ran
@@ -172,15 +161,15 @@ module _ (start : ℕ) (d : Device) (m f : List ℕ) (bytes : (i : ℕ) → getD
             g .memory ∙ singles-run start (ready .device) m (samples-from f 0 n) (fits n low) .memory ∙ rw (passes, taken, good-samples f n 0)
 
         samples-run : Answers all
-        unfolding all ready n count-there ran run-on run-content
+        unfolding all ready n count-there ran whole-order
         samples-run =
             let g = samples-taken start h f p passes d m room there taken in
             by-bool (eqb (form-refusal f) 0)
             (λ fine.
             let exact : length f ≡ whole f = is-whole fine in
             let every : n ≡ sample-count f = omega arith in
-            let ends = end-run (all .state) start (ready .device) m (samples-from f 0 n) (g .form ∙ eqb-true (form-refusal f) 0 fine) (g .number) (g .device) (fits n (omega arith)) in
-            record { answer = rw (g .memory, fine, taken) (ends ∙ ap (λ (x : ℕ). told (or-fresh (run (ready .device) m start (samples-from f 0 x)))) every); memory = left })
+            let ends = end-run (all .state) start (ready .device) m (samples-from f 0 n) (g .form ∙ eqb-true (form-refusal f) 0 fine) (g .number) (g .device) (after-writes f bytes d well none .well) (fits n (omega arith)) in
+            record { answer = rw (with-whole-order f bytes d well none (eqb-true _ 0 fine) m start, g .memory, taken) (ends ∙ ap (λ (x : ℕ). told (or-fresh (run (ready .device) m start (samples-from f 0 x)))) every); memory = left })
             (λ refused. form-refused all (g .form) refused left)
 
   -- Every length and content.
@@ -199,15 +188,15 @@ module _ (start : ℕ) (d : Device) (m f : List ℕ) (bytes : (i : ℕ) → getD
       (λ taken. samples-run (g .head) (g .passed) (g .none) room there (eqb-true _ 0 taken))
       (λ refused. refuses-write (g .head) (g .passed) (g .none) room there refused))))
 
--- The theorem: for every list of parts, empty ones too, on a device that has counted no sample. Number and device are those of running the whole file; memory is what the
+-- The theorem: for every list of parts, empty ones too, on a device that is not malformed and has counted no sample. Number and device are those of running the whole file; memory is what the
 -- samples before the first refused item left, which in an accepted file are all of them.
-module _ (d : Device) (parts : List (List ℕ)) (m : List ℕ) (start : ℕ) (bytes : (i : ℕ) → getD (joined parts) i 0 < 256) (none : d .core .output .counts .samples ≡ 0) where
+module _ (d : Device) (parts : List (List ℕ)) (m : List ℕ) (start : ℕ) (bytes : (i : ℕ) → getD (joined parts) i 0 < 256) (well : malformed d ≡ false) (none : d .core .output .counts .samples ≡ 0) where
   pub by-parts : let r = run-on d (joined parts) m start in
       run-parts d parts m start ≡ record { number = r .number; device = r .device; memory = left-by d (joined parts) m start }
   unfolding run-parts all-bytes
   by-parts =
       let f = joined parts in
-      let g = all-answers start d m f bytes none in
+      let g = all-answers start d m f bytes well none in
       let a : ended (all-bytes start d m f .state) (all-bytes start d m f .memory) start ≡ told (run-on d f m start) = g .answer in
       let b : all-bytes start d m f .memory ≡ left-by d f m start = g .memory in
       ap (λ (t : Taken). left-of t) (parts-joined start (record { state = opened d; memory = m }) parts) ∙ (λ i. record { number = a i .number; device = a i .device; memory = b i })
@@ -216,46 +205,52 @@ module _ (d : Device) (parts : List (List ℕ)) (m : List ℕ) (start : ℕ) (by
       left-of t = record { number = ended (t .state) (t .memory) start .number; device = ended (t .state) (t .memory) start .device; memory = t .memory }
 
 -- An accepted file passes each of its checks.
-module _ (d : Device) (f m : List ℕ) (start : ℕ) (taken : run-on d f m start .number ≡ 0) where
-  formed : eqb (form-refusal f) 0 ≡ true
+module _ (d : Device) (f m : List ℕ) (start : ℕ) (bytes : (i : ℕ) → getD f i 0 < 256) (well : malformed d ≡ false) (none : d .core .output .counts .samples ≡ 0) (taken : run-on d f m start .number ≡ 0) where
+  formed : form-refusal f ≡ 0
   unfolding run-on
-  formed = by-bool (eqb (form-refusal f) 0) (λ e. e) (λ e. absurd (eqb-false (form-refusal f) 0 e (rw e at taken)))
+  formed = by-bool (eqb (form-refusal f) 0) (eqb-true _ 0) (λ e. absurd (eqb-false (form-refusal f) 0 e (rw e at taken)))
 
   passes : header-refusal f (length f) ≡ 0
   passes =
       by-bool (eqb (header-refusal f (length f)) 0) (eqb-true _ 0)
-      (λ e. absurd (eqb-false (header-refusal f (length f)) 0 e (sym (form-after-header f (length f) ∙ rw e) ∙ eqb-true (form-refusal f) 0 formed)))
+      (λ e. absurd (eqb-false (header-refusal f (length f)) 0 e (sym (form-after-header f (length f) ∙ rw e) ∙ formed)))
 
   exact : length f ≡ whole f
   exact =
       by-bool (eqb (length f) (whole f)) (eqb-true _ _)
-      (λ e. absurd (eqb-false 13 0 refl (sym (form-after-header f (length f) ∙ rw (passes, e)) ∙ eqb-true (form-refusal f) 0 formed)))
+      (λ e. absurd (eqb-false 13 0 refl (sym (form-after-header f (length f) ∙ rw (passes, e)) ∙ formed)))
+
+  ordered : run-on d f m start ≡ whole-order d f m start
+  ordered = with-whole-order f bytes d well none formed m start
+
+  whole-taken : whole-order d f m start .number ≡ 0
+  whole-taken = sym (ap (λ (r : RunResult). r .number) ordered) ∙ taken
 
   written : eqb (set-up d (writes-of f) .number) 0 ≡ true
-  unfolding run-on run-content
-  written = by-bool (eqb (set-up d (writes-of f) .number) 0) (λ e. e) (λ e. absurd (eqb-false (set-up d (writes-of f) .number) 0 e (rw (formed, e) at taken)))
+  unfolding whole-order
+  written = by-bool (eqb (set-up d (writes-of f) .number) 0) (λ e. e) (λ e. absurd (eqb-false (set-up d (writes-of f) .number) 0 e (rw e at whole-taken)))
 
   content : RunResult
   content = run (set-up d (writes-of f) .device) m start (samples-of f)
 
   fine : eqb (content .number) 0 ≡ true
-  unfolding run-on run-content content
-  fine = by-bool (eqb (content .number) 0) (λ e. e) (λ e. absurd (eqb-false (content .number) 0 e (rw (formed, written, e) at taken)))
+  unfolding whole-order content
+  fine = by-bool (eqb (content .number) 0) (λ e. e) (λ e. absurd (eqb-false (content .number) 0 e (rw (written, e) at whole-taken)))
 
   -- So the memory is that of all samples.
   pub accepted-memory : left-by d f m start ≡ run-on d f m start .memory
-  unfolding left-by samples-there run-on run-content content
+  unfolding left-by samples-there whole-order content
   accepted-memory =
       let every : min (sample-count f) ((length f - sample-start f 0) / sample-size) ≡ sample-count f = omega (arith, exact) in
       let none-bad : any-bad (samples-of f) ≡ false = not-bad _ m start (samples-of f) (eqb-true _ 0 fine) in
-      rw (passes, written, every, good-samples f (sample-count f) 0, good-all (samples-of f) none-bad, formed, fine)
+      rw (ordered, passes, written, every, good-samples f (sample-count f) 0, good-all (samples-of f) none-bad, fine)
 
 -- On a fresh device, and on one made with a depth (W9).
 pub by-parts-file : (parts : List (List ℕ)) (m : List ℕ) (start : ℕ) → ((i : ℕ) → getD (joined parts) i 0 < 256)
     → let r = run-file (joined parts) m start in run-parts fresh parts m start ≡ record { number = r .number; device = r .device; memory = left-by fresh (joined parts) m start }
-by-parts-file parts m start bytes = by-parts fresh parts m start bytes (fresh-ready .1)
+by-parts-file parts m start bytes = by-parts fresh parts m start bytes (fresh-ready .0) (fresh-ready .1)
 
 pub by-parts-of : (depth : ℕ) (parts : List (List ℕ)) (m : List ℕ) (start : ℕ) → ((i : ℕ) → getD (joined parts) i 0 < 256) → eqb (made depth .number) 0 ≡ true
     → let d = made depth .device in let r = run-file-of depth (joined parts) m start in run-parts d parts m start ≡ record { number = r .number; device = r .device; memory = left-by d (joined parts) m start }
 unfolding run-file-of
-by-parts-of depth parts m start bytes taken = rw taken (by-parts (made depth .device) parts m start bytes (made-ready depth taken .1))
+by-parts-of depth parts m start bytes taken = rw taken (by-parts (made depth .device) parts m start bytes (made-ready depth taken .0) (made-ready depth taken .1))

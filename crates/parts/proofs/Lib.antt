@@ -5,6 +5,7 @@ pub mod Content
 pub mod Header
 pub mod Finish
 pub mod ByParts
+pub mod Neither
 pub mod Stretch
 pub mod Growing
 pub mod RequestSheet

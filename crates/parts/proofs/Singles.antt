@@ -43,10 +43,9 @@ run-none d m start = go (eqb (run-refusal d m start []) 0)
     go true = take-append-drop start m
     go false = refl
 
--- One sample that is accepted: the device stays well-formed, the start within the memory, and the sample is counted.
+-- One sample that is accepted: the start stays within the memory, and the sample is counted.
 pub record Accepted (start : ℕ) (d : Device) (m : List ℕ) (w : ℕ) : Type 0 where
   pub number : run d m start (w ∷ []) .number ≡ 0
-  pub well : malformed (run d m start (w ∷ []) .device) ≡ false
   pub within : start ≤ length (run d m start (w ∷ []) .memory)
   pub count : run d m start (w ∷ []) .device .core .output .counts .samples ≡ d .core .output .counts .samples + 1
 
@@ -82,7 +81,7 @@ module _ (start : ℕ) (d : Device) (m : List ℕ) (well : malformed d ≡ false
   counted = step-samples d (drop start m) w
 
   pub accepts : d .core .output .counts .samples + 1 ≤ 4294967295 → Accepted start d m w
-  accepts fits = record { number = rw (one-run fits); well = rw (one-run fits) kept; within = rw (one-run fits) long; count = rw (one-run fits) counted }
+  accepts fits = record { number = rw (one-run fits); within = rw (one-run fits) long; count = rw (one-run fits) counted }
 
   total : (ws : List ℕ) → after .core .output .counts .samples + length ws ≡ d .core .output .counts .samples + length (w ∷ ws)
   total ws = omega (arith, counted)
@@ -132,7 +131,6 @@ pub record Same (start : ℕ) (d : Device) (m ws : List ℕ) : Type 0 where
   pub number : 0 < length ws → singles start d m ws .number ≡ run d m start ws .number
   pub memory : singles start d m ws .memory ≡ run d m start (good ws) .memory
   pub whole : singles start d m ws .number ≡ 0 → 0 < length ws → singles start d m ws ≡ run d m start ws
-  pub well : singles start d m ws .number ≡ 0 → 0 < length ws → malformed (singles start d m ws .device) ≡ false
   pub within : singles start d m ws .number ≡ 0 → 0 < length ws → start ≤ length (singles start d m ws .memory)
 
 -- The first is refused, as all are, and nothing is run.
@@ -145,7 +143,6 @@ module _ (start : ℕ) (d : Device) (m : List ℕ) (w : ℕ) (ws : List ℕ) whe
         number = λ _. rw (one, some, all);
         memory = rw (one, some) (sym memory);
         whole = λ e _. absurd (eqb-false n 0 some (rw (one, some) at e));
-        well = λ e _. absurd (eqb-false n 0 some (rw (one, some) at e));
         within = λ e _. absurd (eqb-false n 0 some (rw (one, some) at e));
       }
 
@@ -188,7 +185,7 @@ module _ (start : ℕ) (d : Device) (m : List ℕ) (w : ℕ) (well : malformed d
   unfolding good
   goes-on [] fits s =
       let a = accepts start d m well within w fine small in
-      record { number = λ _. rw last-runs; memory = rw (last-runs, first-good []); whole = λ _ _. last-runs; well = λ _ _. rw last-runs (a .well); within = λ _ _. rw last-runs (a .within) }
+      record { number = λ _. rw last-runs; memory = rw (last-runs, first-good []); whole = λ _ _. last-runs; within = λ _ _. rw last-runs (a .within) }
   goes-on (v ∷ ws) fits s =
       let some : 0 < length (v ∷ ws) = omega arith in
       let behind : List ℕ = good (v ∷ ws) in
@@ -199,7 +196,6 @@ module _ (start : ℕ) (d : Device) (m : List ℕ) (w : ℕ) (well : malformed d
         whole = λ e _.
             let zero-number = rw same at e in
             same ∙ s .whole zero-number some ∙ sym (run-cons start d m well within w fine (v ∷ ws) fits (not-bad _ _ start (v ∷ ws) (sym (s .number some) ∙ zero-number)));
-        well = λ e _. rw same (s .well (rw same at e) some);
         within = λ e _. rw same (s .within (rw same at e) some);
       }
 
@@ -207,7 +203,7 @@ module _ (start : ℕ) (d : Device) (m : List ℕ) (w : ℕ) (well : malformed d
 pub singles-run : (start : ℕ) (d : Device) (m ws : List ℕ) → d .core .output .counts .samples + length ws ≤ 4294967295 → Same start d m ws
 unfolding singles good
 singles-run start d m [] fits =
-    record { number = λ h. absurd (omega arith); memory = sym (run-none d m start); whole = λ _ h. absurd (omega arith); well = λ _ h. absurd (omega arith); within = λ _ h. absurd (omega arith) }
+    record { number = λ h. absurd (omega arith); memory = sym (run-none d m start); whole = λ _ h. absurd (omega arith); within = λ _ h. absurd (omega arith) }
 singles-run start d m (w ∷ ws) fits =
     by-bool (malformed d)
     (malformed-first start d m w ws)

@@ -11,7 +11,6 @@ use Rattle.rules.specs.State.{fresh}
 use Rattle.rules.specs.Answers.{Changed}
 use Rattle.rules.specs.RegisterCalls.{write}
 use Rattle.rules.specs.Run.{RunResult, run}
-use Rattle.rules.specs.WellFormed.{malformed}
 use Rattle.samples.specs.Samples.{bad-sample}
 use Rattle.trace.specs.Format.{header-length, write-size, sample-size}
 use Rattle.trace.specs.Reading.{field, version-of, sample-count, sample-start, sample-at, whole, header-refusal, form-of, writes-of}
@@ -54,7 +53,8 @@ after-write s =
     let r = write (s .device) (field (s .item) 0 1) (field (s .item) 1 4) in
     record { head = s .head; taken = s .taken; item = no-item; device = r .device; number = r .number }
 
--- A sample with all its bytes, as a run of one: refused (1, 9, 7, 8), it leaves device and memory, and its number is remembered.
+-- A sample with all its bytes, as a run of one: refused (1, 9, 7, 8), it leaves device and memory, and its number is remembered. On the device of a file's run 1 and 8 do not
+-- occur (W8: `never-remembered`).
 unfoldable pub after-sample : ℕ → State → List ℕ → Taken
 after-sample start s memory =
     let r = run (s .device) memory start (field (s .item) 0 sample-size ∷ []) in
@@ -106,15 +106,14 @@ abbrev pub joined : List (List ℕ) → List ℕ
 joined [] = []
 joined (p ∷ ps) = p ++ joined ps
 
--- The end of the file, in the order of the whole file's run: the form checks 13, 10, 11, 13, 12, 13, the number that is remembered; then, for a file without samples, 1
--- and 9. Refused, the device is a fresh one.
+-- The end of the file, in the order of the whole file's run: the form checks 13, 10, 11, 13, 12, 13, the number that is remembered; then, for a file without samples, 9.
+-- Refused, the device is a fresh one.
 unfoldable pub end-refusal : State → List ℕ → ℕ → ℕ
 end-refusal s memory start =
     let form = form-of (s .head) (s .taken) in
     first
     (not (eqb form 0) ⇒ form ∷
     not (eqb (s .number) 0) ⇒ s .number ∷
-    malformed (s .device) ⇒ 1 ∷
     ltb (length memory) start ⇒ 9 ∷
     [])
 

@@ -14,7 +14,6 @@ ghost use Rattle.parts.specs.Parts as parts-rules;
 ghost use Rattle.parts.specs.Answers as parts-answers;
 ghost use Rattle.parts.specs.Forward as forward;
 use device::Changed;
-use device::malformed;
 use refusals::Outcome;
 use refusals::Refusal;
 use rules::Device;
@@ -43,7 +42,7 @@ struct Forward {
     bytes: usize,
 }
 
-// The state before the first byte, with a device: a fresh one, for the run of a file.
+// The state before the first byte, with a device: a fresh one, or one made with a depth, for the run of a file. A malformed one is refused, 1, at the first write or sample.
 pub fn open(device: Device) -> Parts
     ensures { λ r. ⌜ parts-answers.state r ≡ parts-rules.opened device ⌝ }
 {
@@ -401,7 +400,7 @@ fn refused(outcome: Outcome) -> Changed
     }
 }
 
-// The end of the file: the form checks 13, 10, 11, 13, 12, 13, the first refused write's or sample's number, 1, 9; or the device after the file.
+// The end of the file: the form checks 13, 10, 11, 13, 12, 13, the first refused write's or sample's number, 9; or the device after the file.
 pub fn end(parts: Parts, memory: &[u8], start: usize) -> Changed
     ensures { λ r. ⌜ device-answers.changed r ≡ parts-rules.ended (parts-answers.state parts) (now (memory .entry)) start ⌝ }
 {
@@ -415,9 +414,6 @@ pub fn end(parts: Parts, memory: &[u8], start: usize) -> Changed
         return refused(outcome);
     };
     let device = parts.device;
-    if malformed(device) {
-        return refused(Outcome::Refused(Refusal::Malformed));
-    }
     if memory.len() < start {
         return refused(Outcome::Refused(Refusal::StartBeyond));
     }

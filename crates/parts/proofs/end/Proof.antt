@@ -16,15 +16,11 @@ returns-2 c = rw (c .refused2 .ensures .0, c .refused2 .ensures .1, ← c .befor
 
 returns-3 : tie.Need-returns-3
 unfolding ended end-refusal
-returns-3 c = rw (c .refused3 .ensures .0, c .refused3 .ensures .1, ← c .before .before .before .before .before .before .before .before .form-of .ensures, c .before .before .before .before .before .before .enum-told .given .1, c .before .before .before .before .enum-told3 .given .1, ← c .before .before .malformed .ensures, c .before .if1 .taken)
+returns-3 c = rw (c .refused3 .ensures .0, c .refused3 .ensures .1, ← c .before .before .before .before .before .before .before .form-of .ensures, c .before .before .before .before .before .enum-told .given .1, c .before .before .before .enum-told3 .given .1, lt-ltb _ _ (c .before .if1 .taken))
 
 returns-4 : tie.Need-returns-4
 unfolding ended end-refusal
-returns-4 c = rw (c .refused4 .ensures .0, c .refused4 .ensures .1, ← c .before .before .before .before .before .before .before .before .before .form-of .ensures, c .before .before .before .before .before .before .before .enum-told .given .1, c .before .before .before .before .before .enum-told3 .given .1, ← c .before .before .before .malformed .ensures, c .before .before .if1 .left, lt-ltb _ _ (c .before .if2 .taken))
-
-returns-5 : tie.Need-returns-5
-unfolding ended end-refusal
-returns-5 c = rw (← c .before .before .before .before .before .before .before .before .form-of .ensures, c .before .before .before .before .before .before .enum-told .given .1, c .before .before .before .before .enum-told3 .given .1, ← c .before .before .malformed .ensures, c .before .if1 .left, le-ltb _ _ (c .if2 .left))
+returns-4 c = rw (← c .before .before .before .before .before .before .form-of .ensures, c .before .before .before .before .enum-told .given .1, c .before .before .enum-told3 .given .1, le-ltb _ _ (c .if1 .left))
 
 pub end-spec : {M : Type 1} → statement M
 end-spec =
@@ -41,8 +37,5 @@ end-spec =
     (λ c κs. search needs)
     returns-2
     (λ c κs. search needs)
-    (λ c κs. search needs)
     returns-3
-    (λ c κs. search needs)
-    returns-4
-    returns-5)
+    returns-4)
