@@ -2,9 +2,9 @@
  * usage: bench lib|one|file|little|model|none|nofile|trace WIDTH CROP OVERRUN ROWS [TIMES [DEPTH WAITING [SAMPLES]]]
  * one gives the samples one at a time; file runs the trace's file, little over as much memory as the frame printer has. none only makes the trace, nofile
  * makes it and writes its file: what lib, one and model, and what file and little, do besides running. trace prints the file.
- * WIDTH is 8, 10, 12 or 14; CROP and OVERRUN are 0 or 1; ROWS is the number of rows of a picture, of 660 pixel clocks, two samples a clock. DEPTH is the
- * FIFO's, four where none is named; WAITING is how many words wait in it, at most the depth and only with CROP 0; 0 stands for the reference trace.
- * SAMPLES is how many there are, one picture after the other; those of one picture where none is named. */
+ * WIDTH is 8, 10, 12 or 14, or jpeg for compressed pictures, with CROP and WAITING 0; CROP and OVERRUN are 0 or 1; ROWS is the number of rows of a picture,
+ * of 660 pixel clocks, two samples a clock. DEPTH is the FIFO's, four where none is named; WAITING is how many words wait in it, at most the depth and only
+ * with CROP 0; 0 stands for the reference trace. SAMPLES is how many there are, one picture after the other; those of one picture where none is named. */
 #include <stdio.h>
 #include <stdlib.h>
 #include <string.h>
@@ -41,6 +41,29 @@ static void make(size_t count, unsigned rows, int overrun, unsigned width, unsig
         }
 }
 
+/* Compressed pictures with the same blanking at their ends and the same grants: a row is a packet of 512 to 639 bytes, HSYNC blanks for the rest of it. The
+ * last packet is cut so that 1, 2 or 3 bytes are left over for a padded word, in turn. */
+static void make_compressed(size_t count, unsigned rows, int overrun)
+{
+    size_t n = 0, bytes = 0, picture = 0;
+    uint32_t random = 12345;
+    for (unsigned row = 0; n < count; row = row + 1 == rows ? 0 : row + 1) {
+        unsigned packet = 512 + (random >> 25);
+        if (row == 5)
+            bytes = 0, picture++;
+        if (row + 6 == rows)
+            packet -= (unsigned)(bytes + packet - picture % 3 - 1) % 4;
+        if (row >= 5)
+            bytes += packet;
+        for (unsigned clock = 0; clock < CLOCKS; clock++) {
+            random = random * 1664525u + 1013904223u;
+            uint32_t pins = random >> 18 | (clock >= packet ? 1u << 14 : 0) | (row < 5 || row + 5 >= rows ? 1u << 15 : 0);
+            for (uint32_t level = 0; level < 2 && n < count; level++, n++)
+                samples[n] = pins | level << 16 | (!overrun && n % 4 == 3 ? 1u << 17 : 0);
+        }
+    }
+}
+
 static double seconds(void)
 {
     struct timespec t;
@@ -52,14 +75,18 @@ int main(int count, char **words)
 {
     if (count < 6 || count == 8)
         return fprintf(stderr, "usage: bench lib|one|file|little|model|none|nofile|trace WIDTH CROP OVERRUN ROWS [TIMES [DEPTH WAITING [SAMPLES]]]\n"), 2;
-    unsigned width = (unsigned)atoi(words[2]), rows = (unsigned)atoi(words[5]), times = count > 6 ? (unsigned)atoi(words[6]) : 1;
+    int jpeg = !strcmp(words[2], "jpeg");
+    unsigned width = jpeg ? 8 : (unsigned)atoi(words[2]), rows = (unsigned)atoi(words[5]), times = count > 6 ? (unsigned)atoi(words[6]) : 1;
     unsigned depth = count > 8 ? (unsigned)atoi(words[7]) : 4, waiting = count > 8 ? (unsigned)atoi(words[8]) : 0;
     size_t n = count > 9 ? (size_t)atol(words[9]) : (size_t)2 * CLOCKS * rows;
     int crop = atoi(words[3]), overrun = atoi(words[4]);
-    if (rows < 11 || n > MOST_SAMPLES || width < 8 || width > 14 || waiting > depth || (waiting && crop))
+    if (rows < 11 || n > MOST_SAMPLES || width < 8 || width > 14 || waiting > depth || (waiting && crop) || (jpeg && (crop || waiting)))
         return 2;
-    uint32_t cr = 0x40E1u | (width - 8) / 2 << 10 | (crop ? 4u : 0), start = 100u << 16 | 100, size = 199u << 16 | 299;
-    make(n, rows, overrun, width, waiting);
+    uint32_t cr = 0x40E1u | (width - 8) / 2 << 10 | (crop ? 4u : 0) | (jpeg ? 8u : 0), start = 100u << 16 | 100, size = 199u << 16 | 299;
+    if (jpeg)
+        make_compressed(n, rows, overrun);
+    else
+        make(n, rows, overrun, width, waiting);
     int one = !strcmp(words[1], "one"), little = !strcmp(words[1], "little"), run = little || !strcmp(words[1], "file");
     int trace = !strcmp(words[1], "trace"), filed = run || trace || !strcmp(words[1], "nofile");
 

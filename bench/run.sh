@@ -39,13 +39,14 @@ took() { bench 20 "$@" | sed 's/.* held, //; s/ ns.*//'; }
 
 echo '| bits | cropped | grants | rows | depth | words waiting | `dcmi_run`: instructions, ns | `dcmi_run_file` | model, C at -O2 |'
 echo '|---|---|---|---|---|---|---|---|---|'
-# row WIDTH CROP OVERRUN ROWS DEPTH WAITING; where no number of words waits, at most one does, or they overrun
+# row WIDTH CROP OVERRUN ROWS DEPTH WAITING [SAMPLES]; where no number of words waits, at most one does, or they overrun
 row() {
-    local crop=no grants='one in four' waiting='at most 1'
+    local bits=$1 crop=no grants='one in four' waiting='at most 1'
+    [ "$1" = jpeg ] && bits='8, JPEG'
     [ "$2" = 1 ] && crop=yes
     [ "$3" = 1 ] && grants=none waiting=overrun
     [ "$6" != 0 ] && grants='one a word' waiting=$6
-    local line="| $1 | $crop | $grants | $4 | $5 | $waiting |" which
+    local line="| $bits | $crop | $grants | $4 | $5 | $waiting |" which
     for which in lib file model; do
         count_cost $which "$@"
         line="$line $cost, $(took $which "$@") |"
@@ -60,6 +61,7 @@ row 14 0 0 1960 4 0
 row 14 0 0 490 4 3
 row 14 0 0 490 32 0
 row 14 0 0 490 32 30
+row jpeg 0 0 98 4 0 646800 # five pictures, each with a padded word at its end
 echo
 sample() {
     count_cost one 14 0 0 490 "$1" "$3"

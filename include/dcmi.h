@@ -24,7 +24,7 @@ enum {
     DCMI_NO_REGISTER = 2,  /* no register at the offset */
     DCMI_ACCESS = 3,       /* read of ICR, or write of SR, RIS, MIS */
     DCMI_RESERVED = 4,     /* a reserved bit of the written value is 1 */
-    DCMI_UNSUPPORTED = 5,  /* CR with JPEG 1, ESS 1, FCRC 3, or CAPTURE 1 and ENABLE 0 */
+    DCMI_UNSUPPORTED = 5,  /* CR with ESS 1, FCRC 3, CAPTURE 1 and ENABLE 0, or JPEG 1 and not both EDM 0 and CROP 0 */
     DCMI_ENABLED = 6,      /* ENABLE is 1, and CWSTRT or CWSIZE is written, even with the value it holds, or a CR bit other than 0 and 14 would change */
     DCMI_SAMPLE_BITS = 7,  /* a sample has a bit above 17 */
     DCMI_SAMPLES = 8,      /* samples in all would pass 4,294,967,295 */

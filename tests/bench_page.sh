@@ -1,6 +1,6 @@
 #!/usr/bin/env bash
-# docs/BENCH.md: its first program is taken out, compiled without a warning and run; the commands of the ice bath are run; what they print is what
-# the page shows.
+# docs/BENCH.md: its two programs are taken out, compiled without a warning and run; the commands of the ice bath are run; what they print is what the
+# page shows.
 set -u
 cd "$(dirname "$0")/.." || exit 2
 . tests/c/library.sh
@@ -14,13 +14,19 @@ fail() {
 mkdir -p "$out" || fail "cannot make $out"
 make_library || fail "rt staticlib dcmi (target/staticlib.log)"
 
-# The program is the page's block of C; what it prints is the indented block after the line "prints".
-awk '/^```c$/ { on = 1; next } on && /^```$/ { exit } on' "$page" >"$out/first.c"
-awk '/^prints$/ { on = 1; next } on && /^    / { print substr($0, 5); begun = 1; next } begun { exit }' "$page" >"$out/first.shown"
-[ -s "$out/first.c" ] && [ -s "$out/first.shown" ] || fail "$page has no program, or nothing that it prints"
-gcc -std=c11 -Wall -Wextra -pedantic -Werror -Iinclude "$out/first.c" "$LIBRARY" -o "$out/first" || fail "compiling the program of $page"
-"$out/first" >"$out/first.printed" || fail "the program of $page ended with status $?"
-diff "$out/first.shown" "$out/first.printed" || fail "the program of $page prints what stands at > above"
+# The program of a section is its first block of C; what it prints is the indented block after the line that ends with "prints".
+program() {
+    local section=$1 name=$out/$2
+    awk -v section="## $section" '$0 == section { on = 1; next } /^## / { on = 0 } on' "$page" >"$name.section"
+    awk '/^```c$/ { on = 1; next } on && /^```$/ { exit } on' "$name.section" >"$name.c"
+    awk '/prints$/ { on = 1; next } on && /^    / { print substr($0, 5); begun = 1; next } begun { exit }' "$name.section" >"$name.shown"
+    [ -s "$name.c" ] && [ -s "$name.shown" ] || fail "$page, $section: no program, or nothing that it prints"
+    gcc -std=c11 -Wall -Wextra -pedantic -Werror -Iinclude "$name.c" "$LIBRARY" -o "$name" || fail "compiling the program of $page, $section"
+    "$name" >"$name.printed" || fail "the program of $page, $section, ended with status $?"
+    diff "$name.shown" "$name.printed" || fail "the program of $page, $section, prints what stands at > above"
+}
+program 'A first program' first
+program 'Compressed pictures' compressed
 
 # The commands stand after a dollar sign, what they print under them; rt's own lines are not shown.
 awk '/^## The ice bath$/ { on = 1; next } /^## / { on = 0 } on && /^    / { print substr($0, 5) }' "$page" >"$out/ice_bath.shown"
@@ -43,4 +49,4 @@ while IFS= read -r line; do
 done <"$out/ice_bath.shown"
 diff "$out/ice_bath.shown" "$printed" || fail "the commands of $page print what stands at > above"
 
-echo "docs/BENCH.md: the program prints the $(wc -l <"$out/first.shown") lines that the page shows, the $commands commands of the ice bath what stands under them."
+echo "docs/BENCH.md: the programs print the $(cat "$out/first.shown" "$out/compressed.shown" | wc -l) lines that the page shows, the $commands commands of the ice bath what stands under them."

@@ -47,6 +47,7 @@ void scene_make(scene *s, uint32_t cr)
     s->hold = chance(1, 8) ? between(2, 3) : 1;
     s->grant = grants[below(7)];
     s->glitch = chance(1, 2) ? 0 : below(64);
+    s->gap = chance(1, 4) ? below(128) : 0;
     s->pixels_first = chance(1, 2);
     s->hsync_idle = chance(1, 2);
     if (chance(1, 8)) s->polarity = below(8) << 5;
@@ -66,6 +67,7 @@ void scene_full(scene *s, uint32_t cr)
     s->hblank = below(3);
     s->vblank = between(1, 2);
     s->grant = chance(1, 2) ? 0 : below(24);
+    s->gap = chance(1, 4) ? below(128) : 0;
     s->pixels_first = chance(1, 2);
     s->hsync_idle = chance(1, 2);
 }
@@ -91,8 +93,9 @@ uint32_t scene_sample(scene *s)
     const bool working = s->part >= s->hold;
     const uint32_t line = s->hblank + s->width, column = s->clock < s->vblank ? 0 : (s->clock - s->vblank) % line;
     const bool vblank = s->clock < s->vblank;
-    const bool hblank = vblank ? !s->hsync_idle : s->pixels_first ? column >= s->width : column < s->hblank;
+    const bool between_lines = s->pixels_first ? column >= s->width : column < s->hblank;
     const uint64_t random = random_u64();
+    const bool hblank = vblank ? !s->hsync_idle : between_lines || random >> 56 < s->gap;
     uint32_t sample = random & 0x3FFF;
     sample |= (uint32_t)(hblank == (s->polarity >> 6 & 1)) << 14;
     sample |= (uint32_t)(vblank == (s->polarity >> 7 & 1)) << 15;
@@ -109,6 +112,32 @@ uint32_t scene_sample(scene *s)
 void scene_samples(scene *s, uint32_t *samples, size_t count)
 {
     for (size_t i = 0; i < count; i++) samples[i] = scene_sample(s);
+}
+
+/* One clock of the camera that fits some CR: the level before the working edge, then the edge. */
+static uint32_t *clock_out(uint32_t *at, uint32_t cr, bool hblank, bool vblank, uint32_t grant)
+{
+    const uint32_t syncs = (uint32_t)(hblank == (cr >> 6 & 1)) << 14 | (uint32_t)(vblank == (cr >> 7 & 1)) << 15, working = cr >> 5 & 1;
+    for (unsigned edge = 0; edge < 2; edge++) {
+        const uint64_t random = random_u64();
+        *at++ = syncs | (edge == working) << 16 | (uint32_t)((random >> 32 & 0xFF) < grant) << 17 | (random & 0x3FFF);
+    }
+    return at;
+}
+
+size_t packets(uint32_t cr, uint32_t bytes, uint32_t grant, uint32_t *samples)
+{
+    const uint32_t gap = chance(1, 2) ? 0 : below(96);
+    uint32_t *at = samples;
+    for (unsigned n = between(1, 2); n; n--) at = clock_out(at, cr, chance(1, 2), true, grant);
+    for (bool first = true; bytes; first = false) {
+        const bool blanks = below(256) < gap && at - samples < MOST_PACKETS - 600;
+        if (blanks || (first && chance(1, 2))) at = clock_out(at, cr, true, false, grant);
+        else bytes--, at = clock_out(at, cr, false, false, grant);
+    }
+    if (chance(1, 2)) at = clock_out(at, cr, true, false, grant); /* the last packet ends before the frame does */
+    at = clock_out(at, cr, chance(1, 2), true, grant);
+    return (size_t)(at - samples);
 }
 
 /* ---- depths ---- */
@@ -140,7 +169,22 @@ uint32_t valid_cr(void)
     uint32_t cr = 0x4000 | (random_u32() & 0xCE6);
     cr |= below(3) << 8;
     if (chance(7, 8)) cr |= 1;
+    if (chance(1, 5)) cr = (cr & ~UINT32_C(0xC04)) | 0x8; /* JPEG, with EDM 0 and CROP 0 */
     return cr;
+}
+
+uint32_t valid_jpeg(void) { return (valid_cr() & ~UINT32_C(0xC04)) | 0x8; }
+
+uint32_t any_jpeg(void)
+{
+    const uint32_t cr = chance(1, 2) ? valid_jpeg() : valid_jpeg() & ~UINT32_C(0x4001);
+    switch (below(6)) {
+    case 0: return cr | 0x4;                   /* CROP */
+    case 1: return cr | between(1, 3) << 10;   /* EDM */
+    case 2: return cr | 0x10;                  /* ESS */
+    case 3: return cr | (random_u32() & 0x1F1C);
+    default: return cr;
+    }
 }
 
 uint32_t valid_cwstrt(void)
@@ -173,10 +217,11 @@ uint32_t any_offset(void)
 
 uint32_t any_value(const uint32_t *device)
 {
-    switch (below(10)) {
+    switch (below(11)) {
     case 0: return 0;
     case 1: return below(32);
     case 2: return valid_cr();
+    case 9: return any_jpeg();
     case 3: return device[DCMI_W_CR] ^ UINT32_C(1) << below(16);
     case 4: return device[DCMI_W_CR] ^ 1;
     case 5: return device[DCMI_W_CR] & ~UINT32_C(0x4001);
@@ -272,11 +317,28 @@ bool image_window(uint32_t *w)
     if (chance(1, 2)) w[DCMI_W_CWSIZE] = random_u32() & 0x3FFF3FFF;
     const uint32_t last_line = (w[DCMI_W_CWSTRT] >> 16) + (w[DCMI_W_CWSIZE] >> 16);
     if (!w[DCMI_W_FRAME] || w[DCMI_W_SAMPLES] < last_line + 2 || w[DCMI_W_SAMPLES] == UINT32_MAX) return false;
-    w[DCMI_W_CR] |= 0x4; /* CROP */
+    w[DCMI_W_CR] = (w[DCMI_W_CR] & ~UINT32_C(0x8)) | 0x4; /* CROP, and no JPEG */
     w[DCMI_W_RIS] &= ~UINT32_C(1);
     w[DCMI_W_CLOCK] = ~w[DCMI_W_CR] >> 5 & 1; /* PCKPOL */
     w[DCMI_W_LINES] = last_line;
     return true;
+}
+
+bool image_compressed(uint32_t *w)
+{
+    if (!w[DCMI_W_FRAME] || w[DCMI_W_SAMPLES] == UINT32_MAX) return false;
+    w[DCMI_W_CR] = (w[DCMI_W_CR] & ~UINT32_C(0xC04)) | 0x8;
+    w[DCMI_W_CLOCK] = ~w[DCMI_W_CR] >> 5 & 1; /* PCKPOL */
+    if (w[DCMI_W_FRAME] == 2) image_partial(w);
+    return true;
+}
+
+/* JPEG with what it excludes: what the image has of it, or something of it more. */
+static void image_no_jpeg(uint32_t *w)
+{
+    w[DCMI_W_CR] |= 0x8;
+    if (w[DCMI_W_CR] & 0xC04 && chance(3, 4)) return;
+    w[DCMI_W_CR] |= chance(1, 2) ? 0x4 : chance(1, 2) ? 0x10 : between(1, 3) << 10;
 }
 
 /* Too many held words, the equation of counts kept; at times as many as a depth that is too large. */
@@ -335,6 +397,7 @@ void image_damage(uint32_t *w)
     case 0: image_wrap(w); return;
     case 1: case 2: image_overfull(w); return;
     case 3: w[DCMI_W_DEPTH] = bad_depth(); return;
+    case 4: image_no_jpeg(w); return;
     default: break;
     }
     uint32_t values[MOST_BOUNDS];

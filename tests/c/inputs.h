@@ -23,6 +23,7 @@ typedef struct scene {
     uint32_t hold;                            /* samples of each clock level */
     uint32_t grant;                           /* chance of a grant, of 256 */
     uint32_t glitch;                          /* chance of other pins between working edges, of 256 */
+    uint32_t gap;                             /* chance that HSYNC blanks in place of a pixel, of 256 */
     bool pixels_first;                        /* lines begin with pixels, else with blanking */
     bool hsync_idle;                          /* HSYNC does not blank in vertical blanking */
     uint32_t clock, part;                     /* place in the frame, and in the clock */
@@ -36,12 +37,19 @@ void scene_cropped(scene *s, uint32_t cr, uint32_t *cwstrt, uint32_t *cwsize);
 uint32_t scene_sample(scene *s);
 void scene_samples(scene *s, uint32_t *samples, size_t count);
 
+/* A frame that comes in packets: vertical blanking, so many bytes with HSYNC blanking here and there between them, and one clock at which VSYNC blanks
+ * again. Two samples a clock; each has a chance of a grant, of 256. The last sample is the frame end's working edge. Returns how many there are. */
+enum { MOST_PACKETS = 1024 };
+size_t packets(uint32_t cr, uint32_t bytes, uint32_t grant, uint32_t *samples);
+
 /* Depths of the FIFO, often 1, 2, 4 or 32; and numbers that are none. */
 uint32_t any_depth(void);
 uint32_t bad_depth(void);
 
-/* A CR value that a disabled device accepts, with ENABLE 1. */
+/* A CR value that a disabled device accepts, with ENABLE 1; one with JPEG 1; one with JPEG 1 that may be refused for it. */
 uint32_t valid_cr(void);
+uint32_t valid_jpeg(void);
+uint32_t any_jpeg(void);
 uint32_t valid_cwstrt(void);
 uint32_t valid_cwsize(void);
 uint32_t any_offset(void);
@@ -52,6 +60,8 @@ void image_well_formed(uint32_t *image);
 /* One with an open frame gets CROP 1, FRAME 0, often another window, and the line before the window's last; the next sample can be a working edge.
  * False if it has no open frame, or too few samples for so many lines. */
 bool image_window(uint32_t *image);
+/* One with an open frame gets JPEG 1, EDM 0 and CROP 0; the next sample can be a working edge. False if it has no open frame, or no sample is left. */
+bool image_compressed(uint32_t *image);
 /* One word becomes something else; the device is mostly malformed then. */
 void image_damage(uint32_t *image);
 /* Values for a word of an image that lie near a bound; returns how many. */

@@ -122,12 +122,16 @@ static inline bool frame_rises(const camera *c, uint32_t blanked, uint32_t blank
     return c->lines == lines && !(blanked & HSYNC); /* it runs, and either sync ends it */
 }
 
-/* Rule 4, of an open frame in which a sync blanks. It ends where VSYNC does; a snapshot's CAPTURE is cleared there, W1: also if FRAME rose before. */
-static inline void frame_blanks(camera *c, uint32_t blanked, uint32_t blanks)
+/* W4: with JPEG 1 a partial word at frame end is filled with zero bytes, which its unused bits are, and completed by rule 9. False if it was lost. */
+static inline bool complete(camera *c, uint32_t word, outcome *out);
+static inline bool pad(camera *c, outcome *out) { return !(c->cr & JPEG) || c->data == 0 || complete(c, c->partial, out); }
+
+/* Rule 4. Frame end: an open frame closes when VSYNC blanks. A snapshot's CAPTURE is cleared, W1: also if FRAME rose before. W4: padding comes before
+ * FRAME, which does not rise if the padded word is lost. An untaken frame has no partial word. */
+static void frame_end(camera *c, uint32_t blanked, uint32_t blanks, outcome *out)
 {
-    const bool taken = c->frame == FRAME_TAKEN;
-    if (taken && frame_rises(c, blanked, blanks)) c->ris |= F_FRAME;
-    if (!(blanks & VSYNC)) return;
+    const bool taken = c->frame == FRAME_TAKEN, rises = taken && frame_rises(c, blanked, blanks);
+    if (pad(c, out) && rises) c->ris |= F_FRAME;
     if (taken && (c->cr & CM)) c->cr &= ~(uint32_t)CAPTURE;
     close_frame(c);
 }
@@ -174,15 +178,15 @@ static inline bool pack(camera *c, uint32_t sample, uint32_t *word)
     return true;
 }
 
-/* Rule 9. A full word is completed: held, or, W9, with as many held as the depth, lost with them. */
-static inline void complete(camera *c, uint32_t word, outcome *out)
+/* Rule 9. A full word is completed: held, or, W9, with as many held as the depth, lost with them. Whether it is held. */
+static inline bool complete(camera *c, uint32_t word, outcome *out)
 {
     c->completed++;
     if (c->held < c->depth) {
         c->fifo[c->held++] = word;
         out->packed = PACKED_WORD;
         out->word = word;
-        return;
+        return true;
     }
     c->ris |= F_OVR;
     empty_fifo(c);
@@ -190,6 +194,7 @@ static inline void complete(camera *c, uint32_t word, outcome *out)
     close_frame(c);
     if (c->cr & CM) c->cr &= ~(uint32_t)CAPTURE;
     out->packed = PACKED_LOST;
+    return false;
 }
 
 /* An accepted sample: the rules in order. *out is written only where it says that something happened. */
@@ -212,8 +217,14 @@ static inline void step(camera *c, uint8_t *memory, size_t length, size_t start,
     /* Rule 3. */
     sync_flags(c, blanks & ~blanked);
 
-    /* Rule 4. */
-    if (blanks && c->frame != FRAME_CLOSED) frame_blanks(c, blanked, blanks);
+    /* Rule 4. Where a frame ends, none starts and no pixel comes. W1: FRAME may rise before. */
+    if (blanks && c->frame != FRAME_CLOSED) {
+        if (blanks & VSYNC) {
+            frame_end(c, blanked, blanks, out);
+            return;
+        }
+        if (c->frame == FRAME_TAKEN && frame_rises(c, blanked, blanks)) c->ris |= F_FRAME;
+    }
 
     /* Rule 5. */
     if (c->frame == FRAME_CLOSED && (c->cr & CAPTURE) && (blanked & VSYNC) && !(blanks & VSYNC)) frame_start(c);
@@ -228,10 +239,10 @@ static inline void step(camera *c, uint8_t *memory, size_t length, size_t start,
 
 /* ---- Refusal numbers ---- */
 
-/* 5: CR contents. */
+/* 5: CR contents. W4: JPEG 1 with EDM 0 and CROP 0 only. */
 static bool unsupported(uint32_t cr)
 {
-    return (cr & JPEG) || (cr & ESS) || fcrc(cr) == 3 || ((cr & CAPTURE) && !(cr & ENABLE));
+    return ((cr & JPEG) && (edm(cr) || (cr & CROP))) || (cr & ESS) || fcrc(cr) == 3 || ((cr & CAPTURE) && !(cr & ENABLE));
 }
 
 /* 6: what an enabled device keeps. */

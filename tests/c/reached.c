@@ -33,7 +33,8 @@ const char *const call_name[CALLS] = {
     X(R4_TAKEN, "rule 4: end of a taken frame, CROP 0, CM 0, FRAME raised") \
     X(R4_SNAPSHOT, "rule 4: end of a taken frame, CROP 0, FRAME raised, CAPTURE cleared") \
     X(R4_UNTAKEN, "rule 4: end of an untaken frame, FRAME stays 0") \
-    X(R4_PARTIAL, "rule 4: a partial word dropped") \
+    X(R4_PARTIAL, "rule 4: a partial word dropped, 8 bits, JPEG 0") \
+    X(R4_PARTIAL_WIDE, "rule 4: a partial word dropped, 10 to 14 bits") \
     X(R4_NONE_OPEN, "rule 4: VSYNC blanks, no frame open") \
     X(W1_EARLY, "W1: FRAME at the end of the window's last line, CM 0") \
     X(W1_EARLY_SNAPSHOT, "W1: FRAME there, CM 1, CAPTURE stays 1") \
@@ -57,6 +58,55 @@ const char *const call_name[CALLS] = {
     X(W1_END_LATER, "W1: frame end after a later line, FRAME is 0, not raised again") \
     X(W1_END_SNAPSHOT_ENDED, "W1: frame end, the last line had ended, CM 1, CAPTURE cleared") \
     X(W1_OVERRUN, "W1: overrun in the window, FRAME stays 0") \
+    X(W4_PADDED_1, "W4: frame end, 1 byte left over, padded and held, FRAME raised") \
+    X(W4_PADDED_2, "W4: frame end, 2 bytes left over, padded and held, FRAME raised") \
+    X(W4_PADDED_3, "W4: frame end, 3 bytes left over, padded and held, FRAME raised") \
+    X(W4_PADDED_0S, "W4: the bytes left over are zeros, a word all the same") \
+    X(W4_NONE_LEFT, "W4: frame end, no byte left over, no word, FRAME raised") \
+    X(W4_EMPTY, "W4: end of a taken frame without a byte, no word, FRAME raised") \
+    X(W4_UNTAKEN, "W4: end of an untaken frame with bytes, no word, FRAME stays 0") \
+    X(W4_SNAPSHOT, "W4: padded and held, CM 1, CAPTURE cleared") \
+    X(W4_NONE_SNAPSHOT, "W4: frame end, no byte left over, CM 1, CAPTURE cleared") \
+    X(W4_CAPTURE_0, "W4: padded and held, CAPTURE was cleared inside the frame") \
+    X(W4_VSYNC_ALONE, "W4: padded where VSYNC alone blanks") \
+    X(W4_BOTH, "W4: padded where both syncs blank at once") \
+    X(W4_AFTER_PACKET, "W4: padded after the last packet has ended") \
+    X(W4_IMAGE, "W4: padded, VSYNC was remembered as blanking") \
+    X(W4_LOST_1, "W4: frame end, 1 byte left over, padded and lost") \
+    X(W4_LOST_2, "W4: frame end, 2 bytes left over, padded and lost") \
+    X(W4_LOST_3, "W4: frame end, 3 bytes left over, padded and lost") \
+    X(W4_LOST_FRAME_0, "W4: padded and lost, FRAME stays 0") \
+    X(W4_LOST_FRAME_1, "W4: padded and lost, FRAME was 1 and stays 1") \
+    X(W4_LOST_FLAGS, "W4: padded and lost, VSYNC and OVR raised at once") \
+    X(W4_LOST_CAPTURE_0, "W4: padded and lost, CAPTURE was cleared inside the frame") \
+    X(W4_LOST_NO_ROOM, "W4: padded and lost, granted, but memory had no room") \
+    X(W4_LOST_IMAGE, "W4: padded and lost, VSYNC was remembered as blanking") \
+    X(W4_LOST_INSIDE, "W4: a full word overruns inside the frame") \
+    X(W4_GAP, "W4: HSYNC blanks inside a word, LINE raised, the bytes stay") \
+    X(W4_GAP_STAYS, "W4: HSYNC blanks on inside a word, the bytes stay") \
+    X(W4_GOES_ON, "W4: HSYNC ends in a new line, the word goes on") \
+    X(W4_BYTE, "W4: a byte of which the upper data bits are not 0") \
+    X(W4_CLEARED, "W4: CAPTURE cleared with bytes left over, they stay") \
+    X(W4_DISABLED, "W4: ENABLE falls with bytes left over, no word, FRAME stays 0") \
+    X(W4_PADDED_RUN, "W4: padded and held inside a run") \
+    X(W4_LOST_RUN, "W4: padded and lost inside a run") \
+    X(W4_PADDED_FILE, "W4: padded and held inside a file") \
+    X(W4_LOST_FILE, "W4: padded and lost inside a file") \
+    X(W4_PADDED_FILE_2, "W4: padded and held inside a file of version 2") \
+    X(W4_CR_BARE, "W4: CR 0x8 accepted") \
+    X(W4_CR, "W4: JPEG 1 accepted, CM 0") \
+    X(W4_CR_SNAPSHOT, "W4: JPEG 1 accepted, CM 1") \
+    X(W4_CR_RATE, "W4: JPEG 1 accepted, FCRC 1 or 2") \
+    X(W4_CR_WINDOW, "W4: JPEG 1 accepted, CWSTRT and CWSIZE not 0") \
+    X(W4_CR_BACK, "W4: JPEG 1 to 0 while disabled, with CROP or EDM set") \
+    X(W4_CR_CROP, "W4: JPEG 1 refused 5, CROP 1 and nothing else") \
+    X(W4_CR_EDM_1, "W4: JPEG 1 refused 5, EDM 1 and nothing else") \
+    X(W4_CR_EDM_2, "W4: JPEG 1 refused 5, EDM 2 and nothing else") \
+    X(W4_CR_EDM_3, "W4: JPEG 1 refused 5, EDM 3 and nothing else") \
+    X(W4_CR_ESS, "W4: JPEG 1 refused 5, ESS 1 and nothing else") \
+    X(W4_CR_RESERVED, "W4: JPEG 1 refused 4, a reserved bit and nothing else") \
+    X(W4_CR_SET, "W4: JPEG 0 to 1 while enabled, and nothing else, refused 6") \
+    X(W4_CR_CLEAR, "W4: JPEG 1 to 0 while enabled, and nothing else, refused 6") \
     X(R5_TAKEN, "rule 5: start of a taken frame, CM 0") \
     X(R5_UNTAKEN, "rule 5: start of an untaken frame") \
     X(R5_SNAPSHOT, "rule 5: start of a taken frame, CM 1") \
@@ -159,6 +209,11 @@ const char *const call_name[CALLS] = {
     X(M_PLACE, "malformed: place above landed, and nothing else") \
     X(M_EQUATION, "malformed: equation of counts, and nothing else") \
     X(M_DEPTH_HELD, "malformed: depth above 32 and as many held, and nothing else") \
+    X(M_JPEG_CROP, "W4: malformed: JPEG 1 with CROP 1, and nothing else") \
+    X(M_JPEG_EDM_1, "W4: malformed: JPEG 1 with EDM 1, and nothing else") \
+    X(M_JPEG_EDM_2, "W4: malformed: JPEG 1 with EDM 2, and nothing else") \
+    X(M_JPEG_EDM_3, "W4: malformed: JPEG 1 with EDM 3, and nothing else") \
+    X(M_JPEG_ESS, "W4: malformed: JPEG 1 with ESS 1, and nothing else") \
     X(FILE_WRITE, "file: version 1, a write refused after an accepted one") \
     X(FILE_WRITE_2, "W7: file: version 2, a write refused after an accepted one") \
     X(AT_WRITE, "item: version 1, a write") \
@@ -194,6 +249,12 @@ typedef enum { BRANCHES(BRANCH_NAME) BRANCH_COUNT } branch;
     X(T_OVERRUN_SNAPSHOT, "rule 9: overrun, CM 1, CAPTURE cleared") \
     X(T_RUN_OVERRUN, "rule 9: overrun inside a run") \
     X(T_FILE_OVERRUN, "rule 9: overrun inside a file at a named depth") \
+    X(T_PAD_HELD, "W4: padded and held, as the first and so on to the 32nd") \
+    X(T_PAD_LAST, "W4: padded and held as the last that the depth allows") \
+    X(T_PAD_AFTER_GRANT, "W4: padded and held because the same sample's grant made room") \
+    X(T_PAD_OVERRUN, "W4: padded and lost, CM 0, CAPTURE stays") \
+    X(T_PAD_OVERRUN_SNAPSHOT, "W4: padded and lost, CM 1, CAPTURE cleared") \
+    X(T_PAD_FULL, "W4: frame end with the FIFO full, no byte left over, FRAME raised") \
     X(T_DISABLE, "CR: ENABLE falls with the FIFO full, all discarded") \
     X(T_RESET, "dcmi_reset_depth accepted, over a device in use") \
     X(T_WRITE, "dcmi_write accepted") \
@@ -342,6 +403,59 @@ static void reached_window(const camera *before, const camera *after)
     seen((just_ended || later) && (cleared & CAPTURE), W1_END_SNAPSHOT_ENDED);
 }
 
+/* W4, of the end of a frame that was open, with JPEG 1. */
+static void reached_compressed_end(const camera *before, uint32_t sample, const camera *after)
+{
+    const uint32_t raised = after->ris & ~before->ris, cleared = before->cr & ~after->cr, depth = before->depth, left = before->data;
+    const bool taken = before->frame == FRAME_TAKEN, cm = before->cr & CM, image = before->blanked & VSYNC, granted = sample >> 17 & 1;
+    const bool word = after->completed != before->completed, lost = after->discarded != before->discarded, landed = after->landed != before->landed;
+    const bool held = word && !lost && (after->ris & F_FRAME), no_word = taken && !word && !left;
+    const bool stays_0 = !((before->ris | after->ris) & F_FRAME), closed = after->frame == FRAME_CLOSED && !after->data;
+    if (!closed) return;
+
+    seen(!taken && before->lines && !word && stays_0, W4_UNTAKEN);
+    seen(no_word && before->lines && (raised & F_FRAME), W4_NONE_LEFT);
+    seen(no_word && before->lines && (cleared & CAPTURE), W4_NONE_SNAPSHOT);
+    seen(no_word && !before->lines && (raised & F_FRAME), W4_EMPTY);
+    seen_at(no_word && before->held == depth && !landed && (raised & F_FRAME), T_PAD_FULL, depth);
+    if (!word) return;
+
+    seen(held && (raised & F_FRAME), W4_PADDED_1 + (left - 1));
+    seen(held && !before->partial, W4_PADDED_0S);
+    seen(held && cm && (cleared & CAPTURE), W4_SNAPSHOT);
+    seen(held && !(before->cr & CAPTURE), W4_CAPTURE_0);
+    seen(held && after->blanked == VSYNC, W4_VSYNC_ALONE);
+    seen(held && after->blanked == (HSYNC | VSYNC) && !(before->blanked & HSYNC), W4_BOTH);
+    seen(held && (before->blanked & HSYNC), W4_AFTER_PACKET);
+    seen(held && image && !(raised & F_VSYNC), W4_IMAGE);
+    seen_at(held, T_PAD_HELD, after->held);
+    seen_at(held && !landed && after->held == depth, T_PAD_LAST, depth);
+    seen_at(held && landed && before->held == depth, T_PAD_AFTER_GRANT, depth);
+
+    seen(lost, W4_LOST_1 + (left - 1));
+    seen(lost && stays_0, W4_LOST_FRAME_0);
+    seen(lost && before->ris & after->ris & F_FRAME, W4_LOST_FRAME_1);
+    seen(lost && (raised & F_VSYNC) && (raised & F_OVR), W4_LOST_FLAGS);
+    seen(lost && !(before->cr & CAPTURE), W4_LOST_CAPTURE_0);
+    seen(lost && granted, W4_LOST_NO_ROOM);
+    seen(lost && image, W4_LOST_IMAGE);
+    seen_at(lost && !cm && before->cr == after->cr && (after->cr & CAPTURE), T_PAD_OVERRUN, depth);
+    seen_at(lost && cm && (cleared & CAPTURE), T_PAD_OVERRUN_SNAPSHOT, depth);
+}
+
+/* W4, of a working edge in a taken frame that goes on, with JPEG 1. */
+static void reached_compressed(const camera *before, uint32_t sample, const camera *after)
+{
+    const uint32_t raised = after->ris & ~before->ris;
+    const bool blanks = after->blanked & HSYNC, blanked = before->blanked & HSYNC, stays = after->data == before->data && after->partial == before->partial;
+    const bool lost = after->discarded != before->discarded;
+    seen(before->data && blanks && !blanked && stays && (raised & F_LINE), W4_GAP);
+    seen(before->data && blanks && blanked && stays, W4_GAP_STAYS);
+    seen(before->data && !blanks && blanked && after->data == (before->data + 1) % 4 && after->lines > before->lines, W4_GOES_ON);
+    seen(!blanks && sample >> 8 & 0x3F && after->data > before->data && after->partial >> (8 * before->data) == (sample & 0xFF), W4_BYTE);
+    seen(!blanks && lost && after->frame == FRAME_CLOSED, W4_LOST_INSIDE);
+}
+
 /* Rules 3 to 5, and on to a pixel: a working edge with ENABLE 1. */
 static void reached_edge(const camera *before, uint32_t sample, const camera *after)
 {
@@ -354,12 +468,15 @@ static void reached_edge(const camera *before, uint32_t sample, const camera *af
     seen(blanks == (HSYNC | VSYNC) && !begins, R3_STILL);
 
     if (!closed) reached_window(before, after);
+    if (!closed && (before->cr & JPEG) && (blanks & VSYNC)) reached_compressed_end(before, sample, after);
+    if (before->frame == FRAME_TAKEN && (before->cr & JPEG) && !(blanks & VSYNC)) reached_compressed(before, sample, after);
     if (blanks & VSYNC) {
         seen(closed, R4_NONE_OPEN);
         seen(before->frame == FRAME_TAKEN && !crop && !cm && (raised & F_FRAME), R4_TAKEN);
         seen(before->frame == FRAME_TAKEN && !crop && (raised & F_FRAME) && (before->cr & ~after->cr & CAPTURE), R4_SNAPSHOT);
         seen(before->frame == FRAME_UNTAKEN && !(after->ris & F_FRAME), R4_UNTAKEN);
-        seen(before->data, R4_PARTIAL);
+        seen(before->data && !edm(before->cr) && !(before->cr & JPEG) && after->completed == before->completed, R4_PARTIAL);
+        seen(before->data && edm(before->cr) && after->completed == before->completed, R4_PARTIAL_WIDE);
         return;
     }
 
@@ -422,6 +539,16 @@ static void reached_cr(const camera *before, const camera *after)
     seen((rises & CAPTURE) && open && before->rate && after->rate, CR_CAPTURE_INSIDE);
     seen((falls & CAPTURE) && !disabled && open && after->frame == before->frame, CR_CAPTURE_CLEARED);
     seen((falls & CAPTURE) && !disabled && !open, CR_CAPTURE_CLEARED_OUTSIDE);
+
+    const bool jpeg = after->cr & JPEG, left = jpeg && before->data, no_word = after->completed == before->completed;
+    seen(after->cr == JPEG, W4_CR_BARE);
+    seen(jpeg && !(after->cr & CM), W4_CR);
+    seen(jpeg && (after->cr & CM), W4_CR_SNAPSHOT);
+    seen(jpeg && fcrc(after->cr), W4_CR_RATE);
+    seen((rises & JPEG) && before->cwstrt && before->cwsize, W4_CR_WINDOW);
+    seen((falls & JPEG) && ((after->cr & CROP) || edm(after->cr)), W4_CR_BACK);
+    seen(left && (falls & CAPTURE) && !disabled && after->data == before->data && after->partial == before->partial, W4_CLEARED);
+    seen(left && disabled && no_word && !after->data && !((before->ris | after->ris) & F_FRAME), W4_DISABLED);
 }
 
 /* An accepted write. */
@@ -498,7 +625,30 @@ static uint32_t bits_of(uint32_t offset)
 }
 
 /* CR contents of refusal 5. */
-static bool unsupported(uint32_t cr) { return (cr & (JPEG | ESS)) || fcrc(cr) == 3 || (cr & (CAPTURE | ENABLE)) == CAPTURE; }
+static bool unsupported(uint32_t cr)
+{
+    const bool beside_jpeg = (cr & JPEG) && (cr & (CROP | 0xC00));
+    return beside_jpeg || (cr & ESS) || fcrc(cr) == 3 || (cr & (CAPTURE | ENABLE)) == CAPTURE;
+}
+
+/* W4: contents of refusal 5 because of JPEG and one of what it excludes, and of nothing else; `first` is the first of five branches. */
+static void reached_jpeg(uint32_t cr, branch first)
+{
+    const uint32_t excluded = cr & (CROP | ESS | 0xC00);
+    if (!(cr & JPEG) || unsupported(cr & ~excluded)) return;
+    seen(excluded == CROP, first);
+    for (uint32_t width = 1; width <= 3; width++) seen(excluded == width << 10, first + width);
+    seen(excluded == ESS, first + 4);
+}
+
+/* W4: a CR write that was refused. */
+static void reached_refused_cr(const call *made)
+{
+    const uint32_t cr = made->value, change = made->before[DCMI_W_CR] ^ cr;
+    if (made->answer == 5) reached_jpeg(cr, W4_CR_CROP);
+    seen(made->answer == 4 && (cr & JPEG) && !unsupported(cr), W4_CR_RESERVED);
+    seen(made->answer == 6 && change == JPEG, cr & JPEG ? W4_CR_SET : W4_CR_CLEAR);
+}
 
 static inline uint64_t fault(bool holds, branch which) { return (uint64_t)holds << (which - FIRST_FAULT); }
 
@@ -579,6 +729,7 @@ static bool reached_image(const uint32_t *image)
     seen(too_deep && held == depth, M_DEPTH_HELD);
     seen_at(faults == fault(true, M_HELD) && held == depth + 1, T_MORE_HELD, depth);
     if (faults == fault(true, M_SLOT) || faults == fault(true, M_SLOT_BEYOND)) reached_slot(image);
+    if (faults == fault(true, M_CR)) reached_jpeg(image[DCMI_W_CR], M_JPEG_CROP);
     return true;
 }
 
@@ -595,6 +746,12 @@ static void walk_sample(camera *c, const call *made, uint32_t sample)
     reached_sample(&before, sample, c);
     seen_at(c->discarded != before.discarded, made->kind == RUN ? T_RUN_OVERRUN : T_FILE_OVERRUN, made->kind == RUN_FILE ? 0 : c->depth);
     samples_made++;
+
+    const bool run = made->kind == RUN, padded = before.data && (c->blanked & VSYNC) && c->completed != before.completed;
+    const bool lost = c->discarded != before.discarded;
+    seen(padded && !lost, run ? W4_PADDED_RUN : W4_PADDED_FILE);
+    seen(padded && lost, run ? W4_LOST_RUN : W4_LOST_FILE);
+    seen(padded && !run && made->file[3] == 2, W4_PADDED_FILE_2);
 }
 
 static bool walked_well(const camera *c, const call *made)
@@ -950,6 +1107,7 @@ const char *reached_call(const call *made)
     follow_driver(made);
     if (made->answer == 0) reached_at_depth(made);
     if (made->kind == RESET_DEPTH) reached_depth(made, W9_RESET_0);
+    if (made->kind == WRITE && made->offset == DCMI_CR && made->answer) reached_refused_cr(made);
     if (made->kind == RUN_FILE_DEPTH && only_18(made)) reached_depth(made, W9_FILE_0);
     if (made->answer == 0 && made->kind < RUN) reached_device(made);
     if (made->answer == 0 && made->kind == RUN && !reached_run(made)) return "the model's run is not its samples one by one";

@@ -158,8 +158,9 @@ fn windows() {
 }
 
 fn registers() {
-    text(b"CR write 0x8 is refused 5, 0x1008 is refused 4:\n");
+    text(b"CR write 0x8 is accepted (W4), 0x10 is refused 5, 0x1008 is refused 4:\n");
     let d = write(device::fresh(), Register::CR, 0x8);
+    let d = write(d, Register::CR, 0x10);
     let d = write(d, Register::CR, 0x1008);
     text(b"Enabled, CWSTRT write 0 is refused 6:\n");
     let d = write(d, Register::CR, 0x48E3);

@@ -1,6 +1,6 @@
 -- RIS stays at most 31, a period of the rate counter is short, and a working edge goes by whether a sync blanks. Assumes nothing.
 use mathlib.Core.Bool.{Bool, true, false, not, _&&_, _||_}
-use mathlib.Core.Path.{_≡_, refl, ap}
+use mathlib.Core.Path.{_≡_, refl}
 use Prim.Native.Nat.{ℕ, _≤_}
 use native.Mathlib.Omega.{arith}
 use lib.Dec.{eqb, leb}
@@ -12,9 +12,11 @@ use Rattle.rules.specs.declared.Frame.the-variants.{Closed, Open}
 use Rattle.rules.specs.declared.Capture.{Capture}
 use Rattle.rules.specs.CropWindow.{lines-to-window-end}
 use Rattle.rules.specs.State.{not-blanking, raise, with-registers, with-ris, with-pins, with-syncs}
-use Rattle.rules.specs.Capture.{no-word, vsync-flag, line-flag, sync-flags, window-ended, hsync-after-window, frame-rises, frame-flag, frame-closes, frame-end, rate-period, frame-start, blanking, remember-pins, any-blanks, pixel-in, pixel-edge, remember-syncs, at-edge}
+use Rattle.rules.specs.Capture.{no-word, vsync-flag, line-flag, sync-flags, window-ended, hsync-after-window, frame-rises, frame-due, frame-closes, rate-period, frame-start, blanking, remember-pins, any-blanks, pixel-in, pixel-edge}
+use Rattle.laws.specs.Before.{frame-end-before-W4, at-edge-by}
 use Rattle.bits.proofs.Booleans.{or-false, and-zero, either}
 use Rattle.rules.proofs.WellFormed.{CaptureOk}
+use Rattle.laws.proofs.Moved.{no-pixel}
 use Rattle.laws.proofs.CaptureParts.{pins-syncs-ok}
 use Rattle.laws.proofs.RegisterValues.{raised-fits}
 
@@ -38,15 +40,10 @@ unfolding blanking remember-pins with-pins
 same-blanking s w e = rw e
 
 -- An edge at which a sync blanks carries no pixel.
-no-pixel : (f : Frame) (s : Capture) (now : Syncs) (x : ℕ) → any-blanks now ≡ true → pixel-in f s now x ≡ no-word s
-unfolding pixel-in
-no-pixel Closed s now w blanks = refl
-no-pixel (Open taken f) s now w blanks = rw blanks
-
-pub blanked-edge : (s : Capture) (now : Syncs) (x : ℕ) → any-blanks now ≡ true
-    → at-edge s now x ≡ remember-syncs now (no-word (frame-start (frame-end (sync-flags s now) now) now))
-unfolding at-edge pixel-edge
-blanked-edge s now x blanks = ap (remember-syncs now) (no-pixel _ _ now x blanks)
+pub edge-blanked : (s : Capture) (now : Syncs) (x : ℕ) → any-blanks now ≡ true
+    → at-edge-by frame-end-before-W4 s now x ≡ no-word (with-syncs now (frame-start (frame-end-before-W4 (sync-flags s now) now) now))
+unfolding at-edge-by pixel-edge no-word
+edge-blanked s now x blanks = let u = frame-start (frame-end-before-W4 (sync-flags s now) now) now in rw (no-pixel (u .frame) u now x blanks)
 
 -- Where neither blanks no flag rises and no frame ends.
 no-rise : (s : Capture) (f : Scan) → frame-rises s f not-blanking ≡ false
@@ -56,15 +53,16 @@ no-rise s f =
     rw (and-zero (leb (lines-to-window-end (s .registers)) (f .lines)), and-zero (not (window-ended s f))) in
     either (λ (b : Bool). b ≡ false) (crop (s .registers .cr)) none refl
 
-no-frame-flag : (frame : Frame) (s : Capture) → frame-flag frame s not-blanking ≡ s
-unfolding frame-flag
-no-frame-flag Closed s = refl
-no-frame-flag (Open taken f) s = rw (no-rise s f, and-zero taken)
+not-due : (frame : Frame) (s : Capture) → frame-due frame s not-blanking ≡ false
+unfolding frame-due
+not-due Closed s = refl
+not-due (Open taken f) s = rw (no-rise s f, and-zero taken)
 
 pub plain-edge : (s : Capture) (x : ℕ)
-    → at-edge s not-blanking x ≡ remember-syncs not-blanking (pixel-in (frame-start s not-blanking .frame) (frame-start s not-blanking) not-blanking x)
-unfolding at-edge pixel-edge frame-end frame-closes sync-flags line-flag vsync-flag
-plain-edge s x = rw (and-zero (not (s .syncs .vsync)), and-zero (not (s .syncs .hsync)), no-frame-flag (s .frame) s)
+    → at-edge-by frame-end-before-W4 s not-blanking x
+    ≡ (let p = pixel-in (frame-start s not-blanking .frame) (frame-start s not-blanking) not-blanking x in record { state = with-syncs not-blanking (p .state); word = p .word; due = false })
+unfolding at-edge-by pixel-edge frame-end-before-W4 frame-closes sync-flags line-flag vsync-flag
+plain-edge s x = rw (and-zero (not (s .syncs .vsync)), and-zero (not (s .syncs .hsync)), not-due (s .frame) s)
 
 pub neither : (now : Syncs) → any-blanks now ≡ false → now ≡ not-blanking
 neither now e =

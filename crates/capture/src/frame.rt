@@ -1,9 +1,11 @@
 // Rules 4 and 5: frame end and frame start.
+ghost use mathlib.Core.Bool.{cond};
 ghost use mathlib.Core.Path.{_≡_};
 ghost use Prim.Native.Nat.{_+_, _<_, _≤_, _^_};
 ghost use Rattle.rules.specs.State as state;
 ghost use Rattle.rules.specs.CropWindow as crop-window;
 ghost use Rattle.rules.specs.Capture as capture-rules;
+ghost use Rattle.laws.specs.Before as before-rules;
 use crate::apart;
 use crate::syncs::raise_frame;
 use registers::control;
@@ -100,10 +102,10 @@ fn frame_rises(s: Capture, f: Scan, now: Syncs) -> bool
     now.vsync
 }
 
-// Rule 4: FRAME, in a taken frame.
+// Rule 4: FRAME, where it is due, in a taken frame.
 fn frame_flag(frame: Frame, s: Capture, now: Syncs) -> Capture
     requires { ⌜ s .registers .ris ≤ 31 ⌝ }
-    ensures { λ r. ⌜ r ≡ capture-rules.frame-flag frame s now ⌝ }
+    ensures { λ r. ⌜ r ≡ cond (capture-rules.frame-due frame s now) (state.raise 0 s) s ⌝ }
 {
     match frame {
         Frame::Closed => s,
@@ -138,7 +140,7 @@ fn end_of(frame: Frame, s: Capture) -> Capture
 }
 
 // Rule 4: an open frame closes when VSYNC blanks.
-fn frame_closes(s: Capture, now: Syncs) -> Capture
+pub fn frame_closes(s: Capture, now: Syncs) -> Capture
     ensures { λ r. ⌜ r ≡ capture-rules.frame-closes s now ⌝ }
 {
     let frame = s.frame;
@@ -148,10 +150,10 @@ fn frame_closes(s: Capture, now: Syncs) -> Capture
     s
 }
 
-// Rule 4: FRAME, and then the frame's end.
+// Rule 4 where no word is padded: FRAME, and then the frame's end.
 pub fn frame_end(s: Capture, now: Syncs) -> Capture
     requires { ⌜ s .registers .ris ≤ 31 ⌝ }
-    ensures { λ r. ⌜ r ≡ capture-rules.frame-end s now ⌝ }
+    ensures { λ r. ⌜ r ≡ before-rules.frame-end-before-W4 s now ⌝ }
 {
     let frame = s.frame;
     let flagged = frame_flag(frame, s, now);

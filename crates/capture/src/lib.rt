@@ -1,11 +1,15 @@
-// Rules 2 to 8 of one sample, over the capture state: a rule has the name of its definition, and an edge is cut by whether a sync blanks. The functions are for the
+// Rules 2 to 8 of one sample, over the capture state, by whether it pads a word (W4): a rule has the name of its definition, and an edge is cut by whether a sync blanks. The functions are for the
 // crates above, which call them on well-formed devices; each states its result as an equation with its definition.
+ghost use mathlib.Core.Bool.{cond};
+ghost use mathlib.Core.Option.{none, some};
 ghost use mathlib.Core.Path.{_≡_};
 ghost use Prim.Native.Nat.{_+_, _<_, _^_};
 ghost use Rattle.registers.specs.Control.{edm};
 ghost use Rattle.packing.specs.Packing.{Joins};
 ghost use Rattle.rules.specs.State as state;
 ghost use Rattle.rules.specs.Capture as capture-rules;
+ghost use Rattle.laws.specs.Padding as padding;
+ghost use Rattle.laws.specs.Before as before-rules;
 ghost use Rattle.rules.specs.WellFormed.{lines, pixels};
 ghost use Rattle.rules.specs.declared.Frame.the-variants.{Open};
 ghost use Rattle.rules.proofs.WellFormed.{CaptureOk};
@@ -30,7 +34,7 @@ use samples::hsync_pin;
 use samples::pixel_data;
 use samples::vsync_pin;
 
-// The word that a sample fills, if it fills one.
+// The word that a sample fills by a datum, if it fills one.
 pub enum Word {
     Nothing,
     Full(u32),
@@ -156,7 +160,7 @@ fn pixel_in(frame: Frame, s: Capture, datum: u32) -> Captured
 // Rules 3 to 8 at a working edge at which neither sync blanks: no flag rises and no frame ends.
 fn plain_edge(s: Capture, datum: u32) -> Captured
     requires { ⌜ CaptureOk capture-answers.most-lines s ⌝ }
-    ensures { λ r. ⌜ capture-answers.captured r ≡ capture-rules.at-edge s state.not-blanking datum ⌝ }
+    ensures { λ r. ⌜ capture-answers.captured r ≡ before-rules.at-edge-by before-rules.frame-end-before-W4 s state.not-blanking datum ⌝ }
 {
     let now = Syncs {
         hsync: false,
@@ -175,7 +179,7 @@ fn plain_edge(s: Capture, datum: u32) -> Captured
 // Rules 3 to 5 at a working edge at which a sync blanks: it carries no pixel.
 fn blanked_edge(s: Capture, now: Syncs) -> Captured
     requires { ⌜ CaptureOk capture-answers.most-lines s ⌝ }
-    ensures { λ r. ⌜ capture-answers.captured r ≡ capture-rules.remember-syncs now (capture-rules.no-word (capture-rules.frame-start (capture-rules.frame-end (capture-rules.sync-flags s now) now) now)) ⌝ }
+    ensures { λ r. ⌜ capture-answers.captured r ≡ capture-rules.no-word (state.with-syncs now (capture-rules.frame-start (before-rules.frame-end-before-W4 (capture-rules.sync-flags s now) now) now)) ⌝ }
 {
     let flagged = syncs::sync_flags(s, now);
     let ended = frame::frame_end(flagged, now);
@@ -201,10 +205,10 @@ fn remember_pins(mut s: Capture, w: u32) -> Capture
     s
 }
 
-// Rules 2 to 8. Lines and pixels can be counted further by one.
+// Rules 2 to 8 of a sample that pads no word (W4), where FRAME rises by itself. Lines and pixels can be counted further by one.
 pub fn sample(s: Capture, w: u32) -> Captured
     requires { ⌜ CaptureOk capture-answers.most-lines s ⌝ }
-    ensures { λ r. ⌜ capture-answers.captured r ≡ capture-rules.capture-sample s w ⌝ }
+    ensures { λ r. ⌜ capture-answers.captured r ≡ before-rules.capture-sample-by before-rules.frame-end-before-W4 s w ⌝ }
 {
     let s = apart(s);
     let seen = remember_pins(s, w);
@@ -219,4 +223,53 @@ pub fn sample(s: Capture, w: u32) -> Captured
         state: seen,
         word: Word::Nothing,
     }
+}
+
+// Rule 4, W4: with JPEG 1 a taken frame has a partial word to pad.
+fn has_partial(frame: Frame, s: Capture) -> bool
+    ensures { λ r. ⌜ capture-rules.padded frame s ≡ cond r (some (s .partial .bits)) none ⌝ }
+{
+    match frame {
+        Frame::Closed => false,
+        Frame::Open(taken, _) => {
+            if taken {
+                if control::jpeg(s.registers.cr) {
+                    return s.partial.count > 0;
+                }
+                return false;
+            }
+            false
+        }
+    }
+}
+
+// Rule 4, W4: the sample ends a frame and pads its partial word.
+pub fn pads(s: Capture, w: u32) -> bool
+    ensures { λ r. ⌜ padding.padded-at s w ≡ cond r (some (s .partial .bits)) none ⌝ }
+{
+    if syncs::goes_on(s, w) {
+        let now = syncs::blanking(s, w);
+        if now.vsync {
+            let frame = s.frame;
+            return has_partial(frame, s);
+        }
+        return false;
+    }
+    false
+}
+
+// Rules 2 to 5 of a sample that pads a word: no pixel is there, and FRAME is due.
+pub fn padded_sample(s: Capture, w: u32) -> Capture
+    requires { ⌜ CaptureOk capture-answers.most-lines s ⌝ }
+    ensures { λ r. ⌜ r ≡ capture-answers.ended s w ⌝ }
+{
+    let s = apart(s);
+    let seen = remember_pins(s, w);
+    let now = syncs::blanking(seen, w);
+    let flagged = syncs::sync_flags(seen, now);
+    let ended = frame::frame_closes(flagged, now);
+    let mut state = frame::frame_start(ended, now);
+    state.syncs.hsync = now.hsync;
+    state.syncs.vsync = now.vsync;
+    state
 }

@@ -8,7 +8,7 @@ use lib.ListN.{length, take, drop, length-map}
 use Rattle.queue.specs.Queue.{Input}
 use Rattle.queue.specs.Queue as queue
 use Rattle.rules.specs.declared.Capture.{Capture}
-use Rattle.rules.specs.Capture.{capture-sample}
+use Rattle.rules.specs.Capture.{capture-sample, next-capture}
 use Rattle.samples.specs.Samples.{bus-grant}
 use Rattle.delivery.specs.Noted.{note, noted, words}
 use Rattle.delivery.specs.Delivery.{grants}
@@ -19,47 +19,47 @@ input s w = record { grant = bus-grant w; word = capture-sample s w .word }
 
 unfoldable pub inputs : Capture → List ℕ → List (Input ℕ)
 inputs s [] = []
-inputs s (w ∷ ws) = input s w ∷ inputs (capture-sample s w .state) ws
+inputs s (w ∷ ws) = input s w ∷ inputs (next-capture s w) ws
 
 unfoldable pub captures : Capture → List ℕ → Capture
 captures s [] = s
-captures s (w ∷ ws) = captures (capture-sample s w .state) ws
+captures s (w ∷ ws) = captures (next-capture s w) ws
 
 pub inputs-append : (s : Capture) (xs ys : List ℕ) → inputs s (xs ++ ys) ≡ inputs s xs ++ inputs (captures s xs) ys
 unfolding inputs captures
 inputs-append s [] ys = refl
-inputs-append s (w ∷ ws) ys = rw (inputs-append (capture-sample s w .state) ws ys)
+inputs-append s (w ∷ ws) ys = rw (inputs-append (next-capture s w) ws ys)
 
 pub inputs-take : (s : Capture) (n : ℕ) (xs : List ℕ) → inputs s (take n xs) ≡ take n (inputs s xs)
 unfolding inputs
 inputs-take s zero xs = refl
 inputs-take s (suc n) [] = refl
-inputs-take s (suc n) (w ∷ ws) = rw (inputs-take (capture-sample s w .state) n ws)
+inputs-take s (suc n) (w ∷ ws) = rw (inputs-take (next-capture s w) n ws)
 
 pub inputs-length : (s : Capture) (xs : List ℕ) → length (inputs s xs) ≡ length xs
 unfolding inputs
 inputs-length s [] = refl
-inputs-length s (w ∷ ws) = ap suc (inputs-length (capture-sample s w .state) ws)
+inputs-length s (w ∷ ws) = ap suc (inputs-length (next-capture s w) ws)
 
 inputs-grants : (s : Capture) (xs : List ℕ) → queue.grants (inputs s xs) ≡ grants xs
 unfolding inputs grants queue.grants
 inputs-grants s [] = refl
-inputs-grants s (w ∷ ws) = ap (λ (n : ℕ). cond (bus-grant w) 1 0 + n) (inputs-grants (capture-sample s w .state) ws)
+inputs-grants s (w ∷ ws) = ap (λ (n : ℕ). cond (bus-grant w) 1 0 + n) (inputs-grants (next-capture s w) ws)
 
 pub window-grants : (s : Capture) (n k : ℕ) (xs : List ℕ) → queue.grants (take n (drop k (inputs s xs))) ≡ grants (take n (drop k xs))
 unfolding inputs
 window-grants s n zero xs = rw (← inputs-take, inputs-grants)
 window-grants s n (suc k) [] = rw (← inputs-take s n [], inputs-grants)
-window-grants s n (suc k) (w ∷ ws) = window-grants (capture-sample s w .state) n k ws
+window-grants s n (suc k) (w ∷ ws) = window-grants (next-capture s w) n k ws
 
 -- The words that arrive are the noted ones, whatever number the samples begin with.
 pub inputs-words : (n : ℕ) (s : Capture) (xs : List ℕ) → queue.words (inputs s xs) ≡ words (noted n s xs)
 unfolding inputs noted note queue.words
 inputs-words n s [] = refl
-inputs-words n s (w ∷ ws) = go (capture-sample s w .word) (inputs-words (n + 1) (capture-sample s w .state) ws)
+inputs-words n s (w ∷ ws) = go (capture-sample s w .word) (inputs-words (n + 1) (next-capture s w) ws)
   where
     next : Capture
-    next = capture-sample s w .state
+    next = next-capture s w
 
     go : (o : Option ℕ) → queue.words (inputs next ws) ≡ words (noted (n + 1) next ws)
         → queue.words (record { grant = bus-grant w; word = o } ∷ inputs next ws) ≡ words (note (n + 1) o ++ noted (n + 1) next ws)

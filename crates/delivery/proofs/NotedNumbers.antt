@@ -7,7 +7,7 @@ use native.Mathlib.Omega.{arith}
 use lib.ListN.{length, take, length-append}
 use borrow.Author.Tests.{eq-eqb, ne-eqb}
 use Rattle.rules.specs.declared.Capture.{Capture}
-use Rattle.rules.specs.Capture.{capture-sample}
+use Rattle.rules.specs.Capture.{capture-sample, next-capture}
 use Rattle.delivery.specs.Noted.{Noted, note, noted, noted-at}
 use Rattle.delivery.proofs.Inputs.{captures}
 use Rattle.delivery.proofs.Following.{answered}
@@ -21,15 +21,15 @@ pub numbered : (n : ℕ) (s : Capture) (xs : List ℕ) (before : List Noted) (w 
 unfolding noted note
 numbered n s [] before w after e = absurd (omega (arith, simp length-append at (ap length e)))
 numbered n s (x ∷ xs) before w after e =
-    let (later, far) = go (capture-sample s x .word) before (λ rest. numbered (n + 1) (capture-sample s x .state) xs rest w after) e in
+    let (later, far) = go (capture-sample s x .word) before (λ rest. numbered (n + 1) (next-capture s x) xs rest w after) e in
     (later, reach later far)
   where
     next : ℕ → List Noted
-    next k = noted (n + 1) (capture-sample s x .state) (take k xs)
+    next k = noted (n + 1) (next-capture s x) (take k xs)
 
     go : (o : Option ℕ) (before : List Noted)
-        → ((rest : List Noted) → noted (n + 1) (capture-sample s x .state) xs ≡ rest ++ w ∷ after → Numbered (n + 1) next rest w)
-        → note (n + 1) o ++ noted (n + 1) (capture-sample s x .state) xs ≡ before ++ w ∷ after
+        → ((rest : List Noted) → noted (n + 1) (next-capture s x) xs ≡ rest ++ w ∷ after → Numbered (n + 1) next rest w)
+        → note (n + 1) o ++ noted (n + 1) (next-capture s x) xs ≡ before ++ w ∷ after
         → (n < w .sample) × ((k : ℕ) → w .sample ≤ n + suc k → length before < length (note (n + 1) o ++ next k))
     go none before ih e = let (later, far) = ih before e in (omega arith, λ k h. far k (omega arith))
     go (some v) [] ih e = let at : w .sample ≡ n + 1 = cc in (omega arith, λ k h. omega arith)
@@ -57,4 +57,4 @@ unfolding noted captures
 last-noted n s [] w = let e : n + 0 ≡ n = omega arith in rw e (at-own (n + 1) (capture-sample s w .word))
 last-noted n s (x ∷ xs) w =
     let e : n + suc (length xs) ≡ n + 1 + length xs = omega arith in
-    rw e (pass-note _ (n + 1) (capture-sample s x .word) _ (omega arith) ∙ last-noted (n + 1) (capture-sample s x .state) xs w)
+    rw e (pass-note _ (n + 1) (capture-sample s x .word) _ (omega arith) ∙ last-noted (n + 1) (next-capture s x) xs w)

@@ -5,7 +5,7 @@ use mathlib.Core.List.{List, [], _∷_, _++_, map}
 use mathlib.Core.Path.{_≡_}
 use Prim.Native.Nat.{ℕ, zero, suc, _+_, _-_, _*_, _/_, _%_, _≤_}
 use native.Mathlib.Omega.{arith}
-use lib.Dec.{ltb, leb}
+use lib.Dec.{eqb, ltb, leb}
 use lib.ListN.{length, take, drop, replicate, length-drop}
 use borrow.Author.Tests.{leb-true, le-ltb, not-true}
 use Rattle.bits.specs.Bits.{bit}
@@ -104,10 +104,19 @@ twelve-bits = a-write 0 0x48E3 (omega arith)
 abbrev pub eight-bits : SetUpCall
 eight-bits = a-write 0 0x40E3 (omega arith)
 
+-- JPEG (W4), continuous, polarities 1, enabled and capturing.
+abbrev pub compressed : SetUpCall
+compressed = a-write 0 0x40E9 (omega arith)
+
 -- Pixels 1, 2, 3 and so on, at two samples each, from sample number i on, with these grants.
 abbrev pub pixels : ℕ → List Bool → List ℕ
 pixels i [] = []
 pixels i (g ∷ gs) = (i / 2 + 1 + i % 2 * 0x10000 + cond g 0x20000 0) ∷ pixels (suc i) gs
+
+-- Frames of one pixel, 1, 2, 3 and so on, a blank edge after each, from sample number i on, with these grants.
+abbrev pub single-pixels : ℕ → List Bool → List ℕ
+single-pixels i [] = []
+single-pixels i (g ∷ gs) = (cond (eqb (i / 2 % 2) 0) (i / 4 + 1) 0xC000 + i % 2 * 0x10000 + cond g 0x20000 0) ∷ single-pixels (suc i) gs
 
 -- k numbers, s apart, from n on.
 abbrev pub every : ℕ → ℕ → ℕ → List ℕ
@@ -119,13 +128,19 @@ abbrev pub periods : ℕ → ℕ → ℕ → List Bool
 periods zero m n = []
 periods (suc k) m n = replicate m true ++ replicate n false ++ periods k m n
 
--- One run on a device of some depth: a blank edge and then pixels with these grants.
-abbrev pub one-run : ℕ → SetUpCall → List Bool → Scenario
-one-run depth cr gs =
+-- One run on a device of some depth: a blank edge and then some samples; pixels with these grants; frames of one pixel.
+abbrev pub one-run-of : ℕ → SetUpCall → List ℕ → Scenario
+one-run-of depth cr ws =
     record {
       depth = depth;
       set-up-calls = cr ∷ [];
-      calls = a-run (0x0C000 ∷ 0x1C000 ∷ pixels 0 gs) ∷ [];
+      calls = a-run (0x0C000 ∷ 0x1C000 ∷ ws) ∷ [];
       start = 0;
-      memory = replicate (length gs) 0xEE;
+      memory = replicate (length ws) 0xEE;
     }
+
+abbrev pub one-run : ℕ → SetUpCall → List Bool → Scenario
+one-run depth cr gs = one-run-of depth cr (pixels 0 gs)
+
+abbrev pub padded-run : ℕ → List Bool → Scenario
+padded-run depth gs = one-run-of depth compressed (single-pixels 0 gs)

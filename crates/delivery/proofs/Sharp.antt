@@ -1,4 +1,4 @@
--- The premise is needed at every depth (W9): with windows one sample longer, or with one grant fewer in each, a frame overruns, though there is room. At depths 1 and 4
+-- The premise is needed at every depth (W9): with windows one sample longer, or with one grant fewer in each, a frame overruns, though there is room, with JPEG too (W4). At depths 1 and 4
 -- by computation over the rules, at depth 32 on the queue alone, whose theorem is over every depth and spacing.
 use mathlib.Core.Bool.{true, false}
 use mathlib.Core.List.{[], _++_, map}
@@ -9,7 +9,7 @@ use lib.ListN.{length, replicate}
 use Rattle.bits.specs.Bits.{bit}
 use Rattle.queue.proofs.Sharp as queue
 use Rattle.delivery.specs.Delivery.{Scenario, set-up, trace, noted-by}
-use Rattle.delivery.proofs.Outcome.{Windows, final, Outcome, outcome, windows, twelve-bits, eight-bits, every, periods, one-run}
+use Rattle.delivery.proofs.Outcome.{Windows, final, Outcome, outcome, windows, twelve-bits, eight-bits, every, periods, one-run, padded-run}
 
 pub record Overruns (w g s k m : ℕ) (x : Scenario) : Type 0 where
   -- The device was made, there is room for all words, and each w samples hold at least g grants.
@@ -63,6 +63,23 @@ slow-8 = overruns 33 4 8 17 138 12 5 (one-run 4 eight-bits (replicate 4 false ++
 pub scarce-8 : Overruns 32 3 8 8 5 (one-run 4 eight-bits (replicate 4 false ++ periods 2 3 29))
 unfolding outcome
 scarce-8 = overruns 32 3 8 8 70 3 5 (one-run 4 eight-bits (replicate 4 false ++ periods 2 3 29)) refl
+
+-- With JPEG (W4), frames of one pixel, so that each word is padded and they come four samples apart: four in each 17, three in each 16. The grants that do for 8 bits
+-- without JPEG, four in each 32, are too few.
+pub slow-jpeg : Overruns 17 4 4 17 5 (padded-run 4 (periods 4 4 13))
+unfolding outcome
+slow-jpeg = overruns 17 4 4 17 70 12 5 (padded-run 4 (periods 4 4 13)) refl
+
+pub scarce-jpeg : Overruns 16 3 4 8 5 (padded-run 4 (periods 2 3 13))
+unfolding outcome
+scarce-jpeg = overruns 16 3 4 8 34 3 5 (padded-run 4 (periods 2 3 13)) refl
+
+abbrev as-at-8-bits : Scenario
+as-at-8-bits = padded-run 4 (replicate 14 false ++ replicate 4 true ++ replicate 18 false)
+
+pub too-few-jpeg : Overruns 32 4 4 9 5 as-at-8-bits
+unfolding outcome
+too-few-jpeg = overruns 32 4 4 9 38 4 5 as-at-8-bits refl
 
 -- Depth 1: one grant in each 5 samples, none in each 4.
 pub depth-1-slow : Overruns 5 1 4 3 2 (one-run 1 twelve-bits (replicate 2 false ++ periods 2 1 4))

@@ -17,10 +17,10 @@ use Rattle.queue.specs.Queue as queue
 use Rattle.landing.specs.Landing.{Out, puts, Fits, Conditions, Landed}
 use Rattle.landing.proofs.Theorem.{empty, fits, landed}
 use Rattle.rules.specs.declared.Capture.{Capture}
-use Rattle.rules.specs.Capture.{enabled, remember-pins, capture-sample}
-use Rattle.rules.specs.State.{device, fresh-of, with-pins}
+use Rattle.rules.specs.Capture.{enabled, capture-sample, next-capture}
+use Rattle.rules.specs.State.{device, fresh-of}
 use Rattle.rules.specs.Run.{Packed, Ran}
-use Rattle.laws.proofs.Moved.{sample-moved, sample-enable, word-enabled}
+use Rattle.laws.proofs.Moved.{next-overrun, next-enable, word-enabled}
 use Rattle.delivery.specs.Calls.{devices, Moment, moments}
 use Rattle.delivery.specs.Noted.{Noted, noted, words, noted-at}
 use Rattle.delivery.specs.Delivery.{grants, Scenario, set-up, trace, configured, distance, noted-by, Premises, Promised, All, unsampled, all-moments, Delivery}
@@ -35,17 +35,17 @@ use Rattle.delivery.proofs.Prefixes.{all-append, Answered, Reached, all
 
 -- The capture rules never raise OVR, and note no word while ENABLE is 0.
 captures-overrun : (s : Capture) (xs : List ℕ) → bit 1 (s .registers .ris) ≡ false → bit 1 (captures s xs .registers .ris) ≡ false
-unfolding captures remember-pins with-pins
+unfolding captures
 captures-overrun s [] off = off
-captures-overrun s (w ∷ ws) off = captures-overrun (capture-sample s w .state) ws (sample-moved s w .overrun ∙ off)
+captures-overrun s (w ∷ ws) off = captures-overrun (next-capture s w) ws (next-overrun s w ∙ off)
 
 none-disabled : (s : Capture) (xs : List ℕ) → enabled s ≡ false → queue.words (inputs s xs) ≡ []
 unfolding inputs queue.words
 none-disabled s [] off = refl
-none-disabled s (w ∷ ws) off = go (capture-sample s w .word) (word-enabled s w) (none-disabled (capture-sample s w .state) ws (sample-enable s w ∙ off))
+none-disabled s (w ∷ ws) off = go (capture-sample s w .word) (word-enabled s w) (none-disabled (next-capture s w) ws (next-enable s w ∙ off))
   where
     rest : List (queue.Input ℕ)
-    rest = inputs (capture-sample s w .state) ws
+    rest = inputs (next-capture s w) ws
 
     go : (o : Option ℕ) → ((v : ℕ) → o ≡ some v → enabled s ≡ true) → queue.words rest ≡ [] → queue.words (record { grant = input s w .grant; word = o } ∷ rest) ≡ []
     go none on e = e

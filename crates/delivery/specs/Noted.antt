@@ -1,17 +1,17 @@
 -- The words of the claim, from the inputs alone: the register rules and rules 2 to 8, over the accepted writes and samples from reset,
 -- without grants or FIFO, note each full word with its sample's number.
-use mathlib.Core.Bool.{cond}
+use mathlib.Core.Bool.{cond, not, _&&_}
 use mathlib.Core.List.{List, [], _∷_, _++_, map}
 use mathlib.Core.Option.{Option, none, some}
 use Prim.Native.Nat.{ℕ, _+_}
 use lib.Dec.{eqb}
-use Rattle.registers.specs.Control.{edm}
+use Rattle.registers.specs.Control.{jpeg, edm}
 use Rattle.registers.specs.Map.{register-at}
 use Rattle.registers.specs.declared.Found.{Found}
 use Rattle.registers.specs.declared.Found.the-variants.{At, Nothing}
 use Rattle.rules.specs.declared.Capture.{Capture}
 use Rattle.refusals.specs.Refusals.{first}
-use Rattle.rules.specs.Capture.{capture-sample}
+use Rattle.rules.specs.Capture.{capture-sample, next-capture}
 use Rattle.rules.specs.Run.{Packed, nothing, completed}
 use Rattle.rules.specs.RegisterCalls.{register-tests, write-register}
 use Rattle.delivery.specs.Calls.{SetUpCall, a-write}
@@ -44,10 +44,10 @@ unfoldable pub note : ℕ → Option ℕ → List Noted
 note n none = []
 note n (some v) = record { word = v; sample = n } ∷ []
 
--- The words noted from a state at some samples, n samples being before them.
+-- The words noted from a state at some samples, n samples being before them. No word is lost, so that FRAME rises where it is due.
 unfoldable pub noted : ℕ → Capture → List ℕ → List Noted
 noted n s [] = []
-noted n s (w ∷ ws) = note (n + 1) (capture-sample s w .word) ++ noted (n + 1) (capture-sample s w .state) ws
+noted n s (w ∷ ws) = note (n + 1) (capture-sample s w .word) ++ noted (n + 1) (next-capture s w) ws
 
 abbrev pub words : List Noted → List ℕ
 words ns = map (λ x. x .word) ns
@@ -57,6 +57,6 @@ unfoldable pub noted-at : ℕ → List Noted → Packed
 noted-at n [] = nothing
 noted-at n (x ∷ xs) = cond (eqb (x .sample) n) (completed (x .word)) (noted-at n xs)
 
--- The smallest distance between noted words, s: 8 samples at 8 bits, else 4.
+-- The smallest distance between noted words, s (W9): 8 samples at 8 bits without JPEG, else 4. With JPEG a padded word can come four samples after the one before (W4).
 unfoldable pub spacing : ℕ → ℕ
-spacing cr = cond (eqb (edm cr) 0) 8 4
+spacing cr = cond (eqb (edm cr) 0 && not (jpeg cr)) 8 4

@@ -18,7 +18,7 @@ use Rattle.registers.specs.declared.Found.the-variants.{At, Nothing}
 use Rattle.refusals.specs.Refusals.{_⇒_, first}
 use Rattle.samples.specs.Samples.{bus-grant}
 use Rattle.output.specs.Output.{OutputState, contents, with-held, holding, with-counts, with-place, count-sample, count-word, count-discarded, count-landed, fresh-output, room, Granted, no-landing, lands, oldest-lands, grant, Offered, offer, discard}
-use Rattle.rules.specs.declared.Capture.{Capture}
+use Rattle.rules.specs.Capture.{Captured}
 use Rattle.rules.specs.declared.Device.{Device}
 use Rattle.rules.specs.State.{output-of, fresh-of, with-cr, with-ris, with-ier, with-cwstrt, with-cwsize, with-registers}
 use Rattle.rules.specs.RegisterCalls.{write-control, clear-flags, write-register, write-at, write-refusal, write, rearmed, rearm}
@@ -43,13 +43,13 @@ unfolding Landed landing-entry grant no-landing
 grant-landed granted on x buffer = either {y = no-landing x buffer} (Landed x) (granted && on) (oldest-landed x (contents x) buffer) refl
 
 -- Rule 9.
-complete-counted : (o : Option ℕ) (s : Capture) (x : OutputState)
-    → word-entry (complete o s x .packed) (numbers (x .output)) ≡ numbers (complete o s x .device .core .output)
+complete-counted : (o : Option ℕ) (c : Captured) (x : OutputState)
+    → word-entry (complete o c x .packed) (numbers (x .output)) ≡ numbers (complete o c x .device .core .output)
 unfolding complete full-word after-word offer word-entry holding with-held discard count-word count-discarded with-counts
-complete-counted none s x = refl
-complete-counted (some v) s x =
+complete-counted none c x = refl
+complete-counted (some v) c x =
     either
-    (λ (r : Offered). let c = after-word (r .fate) v s (r .state) in word-entry (c .packed) (numbers (x .output)) ≡ numbers (c .device .core .output))
+    (λ (r : Offered). let a = after-word (r .fate) v c (r .state) in word-entry (a .packed) (numbers (x .output)) ≡ numbers (a .device .core .output))
     (ltb (x .output .held) (x .output .depth))
     refl
     refl

@@ -21,12 +21,13 @@ use Rattle.refusals.specs.Refusals.{_⇒_, first}
 use Rattle.rules.specs.declared.Capture.{Capture}
 use Rattle.rules.specs.declared.Device.{Device}
 use Rattle.rules.specs.State.{fresh-of, fresh-capture, with-cr, with-ris, with-ier, with-cwstrt, with-cwsize, with-registers, with-pins, with-syncs, with-frame, with-rate, with-partial, raise, clear-capture, close-frame}
-use Rattle.rules.specs.Capture.{remember-pins}
+use Rattle.rules.specs.Capture.{remember-pins, capture-sample}
 use Rattle.rules.specs.RegisterCalls.{enabling, disabling, switch-enable, capture-rises, switch-capture, write-control, clear-flags, write-register, write-at, write-refusal, write, rearmed, rearm}
 use Rattle.rules.specs.Run.{lose-frame, after-grant, step, steps, run-refusal, run, sample}
 use Rattle.rules.specs.WellFormed.{malformed}
 use Rattle.laws.specs.Histories.{Call, a-write, a-rearming, a-run, a-sample, after, reached}
 use Rattle.laws.proofs.RegisterValues.{above, raised-other}
+use Rattle.laws.proofs.Kept.{flagged-kept}
 use Rattle.laws.proofs.Moved.{sample-moved}
 use Rattle.laws.proofs.KeepsSample.{by-word}
 use Rattle.laws.proofs.Conservation.{calls-keep}
@@ -81,7 +82,8 @@ unfolding step after-grant remember-pins with-pins
 step-error d b w =
     let s = d .core .capture in
     let same = sample-moved s w .error in
-    by-word (λ (e : Device). bit 2 (e .core .capture .registers .ris) ≡ bit 2 (s .registers .ris)) _ _ _ same (λ v. same) (λ v. lose-frame-error _ ∙ same)
+    let flagged = flagged-kept (capture-sample s w) .error ∙ same in
+    by-word (λ (e : Device). bit 2 (e .core .capture .registers .ris) ≡ bit 2 (s .registers .ris)) _ _ _ flagged (λ v. flagged) (λ v. lose-frame-error _ ∙ same)
 
 steps-error : (d : Device) (b ws : List ℕ) → No-error d → No-error (steps d b ws .device)
 unfolding steps

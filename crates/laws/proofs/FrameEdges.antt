@@ -1,5 +1,5 @@
--- A working edge keeps the history of the open frame told (`Told`): whether the window's last line has ended, and how often rule 4 has raised FRAME (request W1).
--- The idea: rule 3 and FRAME change RIS alone; what is left goes by whether a frame is open and which syncs blank. Assumes nothing.
+-- A working edge keeps the history of the open frame told (`Told`): whether the window's last line has ended, and how often FRAME was due (request W1).
+-- The idea: rule 3 changes RIS alone; what is left goes by whether a frame is open and which syncs blank. Assumes nothing.
 use mathlib.Core.Bool.{Bool, true, false, cond, not, _&&_, _||_}
 use mathlib.Core.Path.{_≡_, refl, ap, _∙_}
 use Prim.Native.Nat.{ℕ, _+_, _≤_, _<_}
@@ -16,20 +16,20 @@ use Rattle.rules.specs.declared.Frame.the-variants.{Closed, Open}
 use Rattle.rules.specs.declared.Capture.{Capture}
 use Rattle.rules.specs.CropWindow.{lines-to-window-end}
 use Rattle.rules.specs.State.{with-ris, with-registers, with-syncs, with-frame, with-rate, with-partial, raised, raise, close-frame}
-use Rattle.rules.specs.Capture.{Captured, no-word, any-blanks, vsync-flag, line-flag, sync-flags, window-ended, hsync-after-window, frame-rises, frame-flag, end-of, frame-closes, frame-end, starts, takes, open-frame, start-of, frame-start, line-begins, next-pixel, captured, pack, pixel, pixel-in, pixel-edge, remember-syncs, at-edge}
-use Rattle.laws.specs.FrameHistory.{FrameHistory, no-history, last-line-begun, raises-frame, starts-frame, edge-entry}
+use Rattle.rules.specs.Capture.{Captured, no-word, any-blanks, vsync-flag, line-flag, sync-flags, window-ended, hsync-after-window, frame-rises, frame-due, end-of, frame-closes, frame-end, starts, takes, open-frame, start-of, frame-start, line-begins, next-pixel, captured, pack, pixel, pixel-in, pixel-edge, at-edge}
+use Rattle.laws.specs.FrameHistory.{FrameHistory, no-history, last-line-begun, starts-frame, edge-entry}
 use Rattle.laws.proofs.WindowLines.{over, over-blanks, over-pixel, over-none, risen-on, risen-by-end, last-begun}
 
 -- What the history has to be, by the frame, the lines up to the window's last, CROP, and whether HSYNC blanked at the last working edge.
 abbrev pub Told-in : Frame → ℕ → Bool → Bool → FrameHistory → Type 0
-Told-in Closed n cropped blanked h = h .risen ≤ 1
+Told-in Closed n cropped blanked h = h .due ≤ 1
 Told-in (Open taken f) n cropped blanked h =
-    (ltb n (f .lines) || (eqb (f .lines) n && blanked) ≡ h .ended) × (h .risen ≡ cond (taken && (cropped && h .ended)) 1 0)
+    (ltb n (f .lines) || (eqb (f .lines) n && blanked) ≡ h .ended) × (h .due ≡ cond (taken && (cropped && h .ended)) 1 0)
 
 abbrev pub Told : Capture → FrameHistory → Type 0
 Told s h = Told-in (s .frame) (lines-to-window-end (s .registers)) (crop (s .registers .cr)) (s .syncs .hsync) h
 
--- Rule 3 and FRAME change RIS alone.
+-- Rule 3 changes RIS alone.
 abbrev pub with-flags : ℕ → Capture → Capture
 with-flags x s = with-registers (with-ris x (s .registers)) s
 
@@ -56,14 +56,6 @@ sync-flags-flagged s now =
     (either (Flagged s) (not (s .syncs .vsync) && now .vsync) (raise-flagged 3 s) (none-flagged s))
     (either (Flagged (vsync-flag s now)) (not (vsync-flag s now .syncs .hsync) && now .hsync) (raise-flagged 4 _) (none-flagged _))
 
-frame-flag-flagged : (f : Frame) (s : Capture) (now : Syncs) → Flagged s (frame-flag f s now)
-unfolding frame-flag
-frame-flag-flagged Closed s now = none-flagged s
-frame-flag-flagged (Open taken f) s now = either (Flagged s) (taken && frame-rises s f now) (raise-flagged 0 s) (none-flagged s)
-
-flags-flagged : (s : Capture) (now : Syncs) → Flagged s (frame-flag (sync-flags s now .frame) (sync-flags s now) now)
-flags-flagged s now = flagged-then (sync-flags-flagged s now) (frame-flag-flagged _ _ now)
-
 abbrev pub blanks : Bool → Bool → Syncs
 blanks hsync vsync = record { hsync = hsync; vsync = vsync }
 
@@ -75,25 +67,25 @@ no-start (Open taken f) hsync s = refl
 
 -- Rules 4 (the frame's end) to 8, and the syncs remembered.
 abbrev rest : Capture → Syncs → ℕ → Capture
-rest s now x = remember-syncs now (pixel-edge (frame-start (frame-closes s now) now) now x) .state
+rest s now x = with-syncs now (pixel-edge (frame-start (frame-closes s now) now) now x .state)
 
 window-positive : (s : Capture) → 0 < lines-to-window-end (s .registers)
 window-positive s = omega arith
 
 -- VSYNC blanks: no frame is open.
 rest-closed : (f : Frame) (s : Capture) (hsync : Bool) (x : ℕ) → s .frame ≡ f → rest s (blanks hsync true) x .frame ≡ Closed
-unfolding frame-closes end-of frame-start pixel-edge pixel-in no-word remember-syncs with-syncs close-frame with-partial with-frame
+unfolding frame-closes end-of frame-start pixel-edge pixel-in no-word with-syncs close-frame with-partial with-frame
 rest-closed Closed s hsync x e = rw (e, no-start Closed hsync _)
 rest-closed (Open taken f) s hsync x e = rw (e, no-start Closed hsync _)
 
--- FRAME has risen in a taken frame that VSYNC ends.
+-- FRAME has been due in a taken frame that VSYNC ends.
 pub ends-risen : (taken : Bool) (f : Scan) (s : Capture) (hsync : Bool) (h : FrameHistory) → s .frame ≡ Open taken f → Told s h
-    → edge-entry h s (blanks hsync true) .risen ≡ cond taken 1 0
-unfolding edge-entry starts-frame raises-frame frame-rises hsync-after-window window-ended
+    → edge-entry h s (blanks hsync true) .due ≡ cond taken 1 0
+unfolding edge-entry starts-frame frame-due frame-rises hsync-after-window window-ended
 ends-risen taken f s hsync h e told =
     let n = lines-to-window-end (s .registers) in
     let (ended, risen) = rw e at told in
-    rw e (risen-by-end taken (crop (s .registers .cr)) (over n (f .lines) (s .syncs .hsync)) (leb n (f .lines) && hsync) (h .risen) (rw (← ended) at risen))
+    rw e (risen-by-end taken (crop (s .registers .cr)) (over n (f .lines) (s .syncs .hsync)) (leb n (f .lines) && hsync) (h .due) (rw (← ended) at risen))
 
 open-ends : (taken : Bool) (f : Scan) (s : Capture) (y x : ℕ) (hsync : Bool) (h : FrameHistory) → s .frame ≡ Open taken f → Told s h
     → Told (rest (with-flags y s) (blanks hsync true) x) (edge-entry h s (blanks hsync true))
@@ -104,13 +96,13 @@ open-ends taken f s y x hsync h e told =
 -- HSYNC alone blanks.
 open-blanks : (taken : Bool) (f : Scan) (s : Capture) (y x : ℕ) (h : FrameHistory) → s .frame ≡ Open taken f → Told s h
     → Told (rest (with-flags y s) (blanks true false) x) (edge-entry h s (blanks true false))
-unfolding with-registers with-ris frame-closes frame-start start-of pixel-edge pixel-in no-word remember-syncs with-syncs edge-entry starts-frame last-line-begun raises-frame frame-rises hsync-after-window window-ended
+unfolding with-registers with-ris frame-closes frame-start start-of pixel-edge pixel-in no-word with-syncs edge-entry starts-frame last-line-begun frame-due frame-rises hsync-after-window window-ended
 open-blanks taken f s y x h e told =
     let n = lines-to-window-end (s .registers) in
     let (ended, risen) = rw e at told in
     rw (e, last-begun (vst (s .registers .cwstrt)) (vline (s .registers .cwsize)) (f .lines), ← ended) (
       over-blanks n (f .lines) (s .syncs .hsync),
-      risen-on taken (crop (s .registers .cr)) (over n (f .lines) (s .syncs .hsync)) (leb n (f .lines)) true (h .risen) (rw (← ended) at risen),
+      risen-on taken (crop (s .registers .cr)) (over n (f .lines) (s .syncs .hsync)) (leb n (f .lines)) true (h .due) (rw (← ended) at risen),
     )
 
 -- Neither blanks: the edge carries a pixel.
@@ -123,7 +115,7 @@ pixel-told s taken f x now h told =
 
 open-pixel : (taken : Bool) (f : Scan) (s : Capture) (y x : ℕ) (h : FrameHistory) → s .frame ≡ Open taken f → Told s h
     → Told (rest (with-flags y s) (blanks false false) x) (edge-entry h s (blanks false false))
-unfolding with-registers with-ris frame-closes frame-start start-of next-pixel line-begins pixel-edge pixel-in remember-syncs edge-entry starts-frame last-line-begun raises-frame frame-rises hsync-after-window window-ended
+unfolding with-registers with-ris frame-closes frame-start start-of next-pixel line-begins pixel-edge pixel-in edge-entry starts-frame last-line-begun frame-due frame-rises hsync-after-window window-ended
 open-pixel taken f s y x h e told =
     let n = lines-to-window-end (s .registers) in
     let cropped = crop (s .registers .cr) in
@@ -132,7 +124,7 @@ open-pixel taken f s y x h e told =
     (pixel-told _ taken f x (blanks false false) _
     (rw (last-begun (vst (s .registers .cwstrt)) (vline (s .registers .cwsize)) (f .lines), ← ended) (
       over-pixel n s f (window-positive s),
-      risen-on taken cropped (over n (f .lines) (s .syncs .hsync)) (leb n (f .lines)) false (h .risen) (rw (← ended) at risen),
+      risen-on taken cropped (over n (f .lines) (s .syncs .hsync)) (leb n (f .lines)) false (h .due) (rw (← ended) at risen),
     )))
 
 -- No frame is open: one may start.
@@ -144,9 +136,9 @@ none-closes : (s : Capture) (now : Syncs) → s .frame ≡ Closed → frame-clos
 unfolding frame-closes
 none-closes s now e = either (λ (t : Capture). t ≡ s) (now .vsync) (none-ends (s .frame) s e) refl
 
-started : (s : Capture) (now : Syncs) (x : ℕ) (b : Bool) (h : FrameHistory) → s .frame ≡ Closed → h .risen ≤ 1
-    → Told (remember-syncs now (pixel-edge (cond b (open-frame s) s) now x) .state) (cond b no-history h)
-unfolding pixel-edge pixel-in no-word remember-syncs with-syncs with-frame with-rate open-frame no-history
+started : (s : Capture) (now : Syncs) (x : ℕ) (b : Bool) (h : FrameHistory) → s .frame ≡ Closed → h .due ≤ 1
+    → Told (with-syncs now (pixel-edge (cond b (open-frame s) s) now x .state)) (cond b no-history h)
+unfolding pixel-edge pixel-in no-word with-syncs with-frame with-rate open-frame no-history
 started s now x false h e le = rw e le
 started s now x true h e le =
     let n = lines-to-window-end (s .registers) in
@@ -158,8 +150,8 @@ started s now x true h e le =
     (λ some. (over-none n (now .hsync) (window-positive s), risen))
     (λ neither. pixel-told _ (takes s) no-line x now no-history (rw (or-false (now .hsync) (now .vsync) neither .0) one, risen))
 
-closed-told : (s : Capture) (y x : ℕ) (now : Syncs) (h : FrameHistory) → s .frame ≡ Closed → h .risen ≤ 1 → Told (rest (with-flags y s) now x) (edge-entry h s now)
-unfolding with-registers with-ris frame-start start-of starts remember-syncs edge-entry starts-frame raises-frame
+closed-told : (s : Capture) (y x : ℕ) (now : Syncs) (h : FrameHistory) → s .frame ≡ Closed → h .due ≤ 1 → Told (rest (with-flags y s) now x) (edge-entry h s now)
+unfolding with-registers with-ris frame-start start-of starts edge-entry starts-frame frame-due
 closed-told s y x now h e le = rw (none-closes (with-flags y s) now e, e) (started _ now x (capture (s .registers .cr) && s .syncs .vsync && not (now .vsync)) _ refl le)
 
 -- Every working edge.
@@ -175,5 +167,5 @@ edge-told (Open taken f) s y x now h e told = go (now .hsync) (now .vsync)
 pub at-edge-told : (s : Capture) (now : Syncs) (x : ℕ) (h : FrameHistory) → Told s h → Told (at-edge s now x .state) (edge-entry h s now)
 unfolding at-edge frame-end
 at-edge-told s now x h told =
-    let flagged = flags-flagged s now in
+    let flagged = sync-flags-flagged s now in
     rw (flagged .is) (edge-told (s .frame) s (flagged .flags) x now h refl told)

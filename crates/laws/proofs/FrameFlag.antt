@@ -1,17 +1,21 @@
--- FRAME after a sample is FRAME before it, or raised by rule 4 (`frame-rises-by-rule-4`): no other rule raises it, and none clears it.
--- The idea: rules 3 and 9 raise other flags, and what is left leaves RIS. Assumes nothing.
+-- FRAME after a sample is FRAME before it, or raised because it was due by rule 4 and no word was lost (`frame-rises-by-rule-4`, W4): nothing else raises it, and nothing clears it.
+-- The idea: rule 3 and an overrun raise other flags, and what is left leaves RIS. Assumes nothing.
 use mathlib.Core.Bool.{Bool, true, false, cond, not, _&&_, _||_}
 use mathlib.Core.List.{List}
+use mathlib.Core.Option.{Option, none, some}
 use mathlib.Core.Path.{_≡_, refl, sym, _∙_}
 use Prim.Native.Nat.{ℕ, _+_, _/_, _%_, _^_}
 use native.Mathlib.Omega.{arith}
 use lib.Dec.{ltb}
 use borrow.Author.Tests.{eqb-false, eq-eqb}
 use Rattle.bits.specs.Bits.{bit}
-use Rattle.bits.proofs.Booleans.{or-true, or-unit, by-cond, either}
+use Rattle.bits.proofs.Booleans.{or-true, or-unit, and-unit, and-zero, by-cond, either}
 use Rattle.registers.specs.Control.{snapshot, edm}
 use Rattle.packing.specs.Packing.{per-word}
 use Rattle.samples.specs.Samples.{pixel-data}
+use Rattle.output.specs.declared.Fate.{Fate}
+use Rattle.output.specs.declared.Fate.the-variants.{Held, Lost}
+use Rattle.output.specs.Output.{OutputState, offer}
 use Rattle.rules.specs.declared.Pins.{Pins}
 use Rattle.rules.specs.declared.Syncs.{Syncs}
 use Rattle.rules.specs.declared.Frame.{Frame}
@@ -19,11 +23,10 @@ use Rattle.rules.specs.declared.Frame.the-variants.{Closed, Open}
 use Rattle.rules.specs.declared.Capture.{Capture}
 use Rattle.rules.specs.declared.Device.{Device}
 use Rattle.rules.specs.State.{with-cr, with-ris, with-registers, with-pins, with-syncs, with-frame, with-rate, with-partial, raised, raise, clear-capture, close-frame}
-use Rattle.rules.specs.Capture.{Captured, no-word, working-edge, enabled, remember-pins, blanking, any-blanks, vsync-flag, line-flag, sync-flags, window-ended, hsync-after-window, frame-rises, frame-flag, end-of, frame-closes, frame-end, starts, open-frame, start-of, frame-start, next-pixel, captured, pack, pixel, pixel-in, pixel-edge, remember-syncs, at-edge, capture-sample}
-use Rattle.rules.specs.Run.{lose-frame, after-grant, step}
-use Rattle.laws.specs.FrameHistory.{raises-frame}
+use Rattle.rules.specs.Capture.{Captured, no-word, flagged, working-edge, enabled, remember-pins, blanking, any-blanks, vsync-flag, line-flag, sync-flags, window-ended, hsync-after-window, frame-rises, frame-due, end-of, frame-closes, frame-end, starts, open-frame, start-of, frame-start, next-pixel, captured, pack, pixel, pixel-in, pixel-edge, at-edge, capture-sample}
+use Rattle.rules.specs.Run.{lose-frame, after-word, full-word, complete, after-grant, step}
+use Rattle.laws.specs.FrameHistory.{is-lost}
 use Rattle.laws.proofs.RegisterValues.{raised-other}
-use Rattle.laws.proofs.KeepsSample.{by-word}
 use Rattle.laws.proofs.FrameEdges.{with-flags, sync-flags-flagged}
 
 -- FRAME is 1.
@@ -44,15 +47,14 @@ sync-flags-other s now =
     first : flag (vsync-flag s now) ≡ flag s
     first = either (λ (u : Capture). flag u ≡ flag s) (not (s .syncs .vsync) && now .vsync) (raised-other 0 3 (s .registers .ris) (omega arith)) refl
 
--- Rule 4: FRAME.
-frame-flag-flag : (f : Frame) (s : Capture) (now : Syncs) → flag (frame-flag f s now) ≡ flag s || raises-frame f s now
-unfolding frame-flag raises-frame raise with-registers with-ris
-frame-flag-flag Closed s now = sym (or-unit (flag s))
-frame-flag-flag (Open taken f) s now = go (taken && frame-rises s f now)
+-- FRAME, where it is due.
+flagged-flag : (c : Captured) → flag (flagged c) ≡ flag (c .state) || c .due
+unfolding flagged raise with-registers with-ris
+flagged-flag c = go (c .due)
   where
-    go : (rises : Bool) → flag (cond rises (raise 0 s) s) ≡ flag s || rises
-    go true = raised-frame (s .registers .ris) ∙ sym (or-true (flag s))
-    go false = sym (or-unit (flag s))
+    go : (due : Bool) → flag (cond due (raise 0 (c .state)) (c .state)) ≡ flag (c .state) || due
+    go true = raised-frame (c .state .registers .ris) ∙ sym (or-true (flag (c .state)))
+    go false = sym (or-unit (flag (c .state)))
 
 -- The frame's end, rules 5 to 8, and the syncs remembered leave RIS.
 end-of-ris : (f : Frame) (s : Capture) → end-of f s .registers .ris ≡ s .registers .ris
@@ -77,44 +79,59 @@ pixel-in-ris (Open taken f) s now x =
     either P (any-blanks now) refl
     (either P (captured s taken (next-pixel s f)) (either P (ltb (s .partial .count + 1) (per-word (edm (s .registers .cr)))) refl refl) refl)
 
--- A working edge. The flags and the remembered levels play no part in whether FRAME rises.
-same-raises : (f : Frame) (s : Capture) (y : ℕ) (p : Pins) (now : Syncs) → raises-frame f (with-flags y (with-pins p s)) now ≡ raises-frame f s now
-unfolding raises-frame frame-rises window-ended hsync-after-window with-pins with-registers with-ris
-same-raises Closed s y p now = refl
-same-raises (Open taken f) s y p now = refl
+-- A working edge leaves FRAME. The flags and the remembered levels play no part in whether it is due.
+same-due : (f : Frame) (s : Capture) (y : ℕ) (p : Pins) (now : Syncs) → frame-due f (with-flags y (with-pins p s)) now ≡ frame-due f s now
+unfolding frame-due frame-rises window-ended hsync-after-window with-pins with-registers with-ris
+same-due Closed s y p now = refl
+same-due (Open taken f) s y p now = refl
 
-at-edge-flag : (s : Capture) (p : Pins) (now : Syncs) (x : ℕ) → flag (at-edge (with-pins p s) now x .state) ≡ flag s || raises-frame (s .frame) s now
-unfolding at-edge frame-end frame-start pixel-edge remember-syncs with-syncs with-pins with-registers
-at-edge-flag s p now x =
-    let t = with-pins p s in
-    let flagged = sync-flags-flagged t now in
-    let up = sync-flags t now in
-    let same : raises-frame (up .frame) up now ≡ raises-frame (s .frame) s now = rw (flagged .is) (same-raises (s .frame) s (flagged .flags) p now) in
-    rw (pixel-in-ris, start-of-ris, frame-closes-ris, frame-flag-flag (up .frame) up now, sync-flags-other t now, same)
+at-edge-flag : (s : Capture) (now : Syncs) (x : ℕ) → flag (at-edge s now x .state) ≡ flag s
+unfolding at-edge frame-end frame-start pixel-edge with-syncs
+at-edge-flag s now x = rw (pixel-in-ris, start-of-ris, frame-closes-ris, sync-flags-other s now)
 
--- A sample, and rule 9.
+at-edge-due : (s : Capture) (p : Pins) (now : Syncs) (x : ℕ) → at-edge (with-pins p s) now x .due ≡ frame-due (s .frame) s now
+unfolding at-edge frame-end with-pins with-registers
+at-edge-due s p now x =
+    let flagged = sync-flags-flagged (with-pins p s) now in
+    rw (flagged .is) (same-due (s .frame) s (flagged .flags) p now)
+
+-- A sample.
+sample-flag : (s : Capture) (w : ℕ) → flag (capture-sample s w .state) ≡ flag s
+unfolding capture-sample no-word remember-pins with-pins
+sample-flag s w = either (λ (c : Captured). flag (c .state) ≡ flag s) (working-edge s w && enabled s) (at-edge-flag (remember-pins w s) (blanking s w) (pixel-data w)) refl
+
+sample-due : (s : Capture) (w : ℕ) → capture-sample s w .due ≡ (working-edge s w && enabled s) && frame-due (s .frame) s (blanking s w)
+unfolding capture-sample no-word remember-pins
+sample-due s w = go (working-edge s w && enabled s)
+  where
+    go : (goes-on : Bool) → cond goes-on (at-edge (remember-pins w s) (blanking s w) (pixel-data w)) (no-word (remember-pins w s)) .due
+        ≡ goes-on && frame-due (s .frame) s (blanking s w)
+    go true = at-edge-due s _ (blanking s w) (pixel-data w)
+    go false = refl
+
+-- Rule 9.
 lose-frame-other : (s : Capture) → flag (lose-frame s) ≡ flag s
 unfolding lose-frame close-frame with-frame with-partial clear-capture raise with-registers with-cr with-ris
 lose-frame-other s =
     let other = raised-other 0 1 (s .registers .ris) (omega arith) in
     either (λ (t : Capture). flag t ≡ flag s) (snapshot (s .registers .cr)) other other
 
-sample-flag : (s : Capture) (w : ℕ) → flag (capture-sample s w .state) ≡ flag s || ((working-edge s w && enabled s) && raises-frame (s .frame) s (blanking s w))
-unfolding capture-sample no-word remember-pins with-pins
-sample-flag s w = go (working-edge s w && enabled s)
-  where
-    go : (goes-on : Bool) → flag (cond goes-on (at-edge (remember-pins w s) (blanking s w) (pixel-data w)) (no-word (remember-pins w s)) .state)
-        ≡ flag s || (goes-on && raises-frame (s .frame) s (blanking s w))
-    go true = at-edge-flag s (remember-pins w s .pins) (blanking s w) (pixel-data w)
-    go false = sym (or-unit (flag s))
+after-word-flag : (f : Fate) (v : ℕ) (c : Captured) (x : OutputState)
+    → let r = after-word f v c x in flag (r .device .core .capture) ≡ flag (c .state) || (c .due && not (is-lost (r .packed)))
+unfolding after-word is-lost
+after-word-flag Held v c x = rw (and-unit (c .due)) (flagged-flag c)
+after-word-flag Lost v c x = rw (and-zero (c .due), or-unit (flag (c .state))) (lose-frame-other (c .state))
+
+complete-flag : (o : Option ℕ) (c : Captured) (x : OutputState)
+    → let r = complete o c x in flag (r .device .core .capture) ≡ flag (c .state) || (c .due && not (is-lost (r .packed)))
+unfolding complete full-word is-lost
+complete-flag none c x = rw (and-unit (c .due)) (flagged-flag c)
+complete-flag (some v) c x = after-word-flag (offer v x .fate) v c (offer v x .state)
 
 pub frame-rises-by-rule-4 : (d : Device) (b : List ℕ) (w : ℕ)
-    → let s = d .core .capture in bit 0 (step d b w .device .core .capture .registers .ris)
-    ≡ bit 0 (s .registers .ris) || ((working-edge s w && enabled s) && raises-frame (s .frame) s (blanking s w))
+    → let s = d .core .capture in let r = step d b w in bit 0 (r .device .core .capture .registers .ris)
+    ≡ bit 0 (s .registers .ris) || ((working-edge s w && enabled s) && frame-due (s .frame) s (blanking s w) && not (is-lost (r .packed)))
 unfolding step after-grant
 frame-rises-by-rule-4 d b w =
     let s = d .core .capture in
-    let same = sample-flag s w in
-    by-word
-    (λ (e : Device). flag (e .core .capture) ≡ flag s || ((working-edge s w && enabled s) && raises-frame (s .frame) s (blanking s w)))
-    _ _ _ same (λ v. same) (λ v. lose-frame-other _ ∙ same)
+    complete-flag _ (capture-sample s w) _ ∙ rw (sample-flag s w, sample-due s w)

@@ -1,5 +1,5 @@
 -- FRAME and the window's last line (request W1), over every depth and every list of calls, with writes between the samples: the test `window-ended` is what the history of the
--- open frame says (`window-ended-is-history`), and rule 4 raises FRAME at most once in a frame (`frame-rises-once`), just once in a taken one that it ends (`frame-risen-at-the-end`).
+-- open frame says (`window-ended-is-history`), and FRAME is due at most once in a frame (`frame-due-once`), just once in a taken one that rule 4 ends (`frame-due-at-the-end`).
 -- The idea: each sample and each write keeps the history told (`FrameEdges`); no write changes window or CROP while a frame is open. Assumes nothing.
 use mathlib.Core.Bool.{Bool, true, false, cond, not, _&&_}
 use mathlib.Core.List.{List, [], _∷_, _++_}
@@ -28,14 +28,14 @@ use Rattle.rules.specs.declared.Frame.{Frame}
 use Rattle.rules.specs.declared.Frame.the-variants.{Closed, Open}
 use Rattle.rules.specs.declared.Capture.{Capture}
 use Rattle.rules.specs.declared.Device.{Device}
-use Rattle.rules.specs.State.{fresh-of, fresh-capture, with-cr, with-ris, with-ier, with-cwstrt, with-cwsize, with-registers, with-pins, with-syncs, with-frame, with-rate, with-partial, close-frame}
-use Rattle.rules.specs.Capture.{no-word, working-edge, enabled, remember-pins, blanking, window-ended, hsync-after-window, frame-rises, starts, capture-sample, at-edge}
+use Rattle.rules.specs.State.{fresh-of, fresh-capture, raise, with-cr, with-ris, with-ier, with-cwstrt, with-cwsize, with-registers, with-pins, with-syncs, with-frame, with-rate, with-partial, close-frame}
+use Rattle.rules.specs.Capture.{Captured, no-word, working-edge, enabled, remember-pins, blanking, window-ended, hsync-after-window, frame-rises, frame-due, starts, flagged, capture-sample, at-edge}
 use Rattle.rules.specs.RegisterCalls.{changes-setup, fixed-at, register-tests, enabling, disabling, switch-enable, capture-rises, switch-capture, write-control, clear-flags, write-register, write-at, write-refusal, write, rearmed, rearm}
 use Rattle.rules.specs.Run.{Packed, lose-frame, after-grant, step, steps, run-refusal, run, sample}
 use Rattle.rules.specs.WellFormed.{malformed}
 use Rattle.rules.proofs.WellFormed.{CaptureOk, facts}
 use Rattle.laws.specs.Histories.{Call, a-write, a-rearming, a-run, a-sample, after, after-all, reached, Event, sampled, samplings, accepted-samplings, samplings-of, disabling-of, events, events-of-all, history}
-use Rattle.laws.specs.FrameHistory.{FrameHistory, no-history, raises-frame, starts-frame, edge-entry, frame-entry, frame-entries, frame-history}
+use Rattle.laws.specs.FrameHistory.{FrameHistory, no-history, starts-frame, edge-entry, frame-entry, frame-entries, frame-history}
 use Rattle.laws.proofs.RegisterValues.{same-crop}
 use Rattle.laws.proofs.KeepsSample.{by-word}
 use Rattle.laws.proofs.WriteControl.{closed-frame, setup-stays}
@@ -44,19 +44,19 @@ use Rattle.laws.proofs.Conservation.{call-keeps}
 use Rattle.laws.proofs.FrameEdges.{Told, Told-in, blanks, at-edge-told, ends-risen}
 
 -- At most once, whether a frame is open or not. Where none is, that is all that is told.
-told-once : (f : Frame) (n : ℕ) (cropped blanked : Bool) (h : FrameHistory) → Told-in f n cropped blanked h → h .risen ≤ 1
+told-once : (f : Frame) (n : ℕ) (cropped blanked : Bool) (h : FrameHistory) → Told-in f n cropped blanked h → h .due ≤ 1
 told-once Closed n cropped blanked h told = told
 told-once (Open taken f) n cropped blanked h told = rw (told .1) (either (λ k. k ≤ 1) (taken && (cropped && h .ended)) (omega arith) (omega arith))
 
-once : (s : Capture) (h : FrameHistory) → Told s h → h .risen ≤ 1
+once : (s : Capture) (h : FrameHistory) → Told s h → h .due ≤ 1
 once s h told = told-once (s .frame) _ _ _ h told
 
-none-told : (s : Capture) (h : FrameHistory) → s .frame ≡ Closed → h .risen ≤ 1 → Told s h
+none-told : (s : Capture) (h : FrameHistory) → s .frame ≡ Closed → h .due ≤ 1 → Told s h
 none-told s h e le = rw e le
 
 -- A sample. The remembered levels play no part.
 same-entry : (f : Frame) (s : Capture) (p : Pins) (now : Syncs) (h : FrameHistory) → s .frame ≡ f → edge-entry h (with-pins p s) now ≡ edge-entry h s now
-unfolding edge-entry starts-frame raises-frame with-pins window-ended hsync-after-window frame-rises starts
+unfolding edge-entry starts-frame frame-due with-pins window-ended hsync-after-window frame-rises starts
 same-entry Closed s p now h e = rw e
 same-entry (Open taken f) s p now h e = rw e
 
@@ -69,6 +69,11 @@ sample-told s w h told = go (working-edge s w && enabled s)
     go true = rw (← same-entry (s .frame) s (remember-pins w s .pins) (blanking s w) h refl) (at-edge-told (remember-pins w s) (blanking s w) (pixel-data w) h told)
     go false = told
 
+-- FRAME plays no part.
+flagged-told : (c : Captured) (h : FrameHistory) → Told (c .state) h → Told (flagged c) h
+unfolding flagged raise with-registers with-ris
+flagged-told c h told = either (λ (s : Capture). Told s h) (c .due) told told
+
 step-told : (d : Device) (b : List ℕ) (w : ℕ) (h : FrameHistory) (landing : Option ℕ) (packed : Packed) → Told (d .core .capture) h
     → Told (step d b w .device .core .capture) (frame-entry h (sampled (d .core .capture) w landing packed))
 unfolding step after-grant frame-entry lose-frame close-frame with-frame with-partial
@@ -76,7 +81,8 @@ step-told d b w h landing packed told =
     let s = d .core .capture in
     let h′ = cond (working-edge s w && enabled s) (edge-entry h s (blanking s w)) h in
     let after = sample-told s w h told in
-    by-word (λ (e : Device). Told (e .core .capture) h′) _ _ _ after (λ v. after) (λ v. once (capture-sample s w .state) h′ after)
+    let flagged = flagged-told (capture-sample s w) h′ after in
+    by-word (λ (e : Device). Told (e .core .capture) h′) _ _ _ flagged (λ v. flagged) (λ v. once (capture-sample s w .state) h′ after)
 
 steps-told : (d : Device) (b ws : List ℕ) (h : FrameHistory) → Told (d .core .capture) h
     → Told (steps d b ws .device .core .capture) (frame-entries h (samplings d b ws))
@@ -177,16 +183,16 @@ module _ (depth : ℕ) (sound : bad-depth depth ≡ false) (cs : List Call) wher
   unfolding window-ended
   window-ended-is-history taken f e = (rw e at history-told) .0
 
-  -- Rule 4 raises FRAME at most once in a frame.
-  pub frame-rises-once : frame-history (history depth cs) .risen ≤ 1
-  frame-rises-once = once (reached depth cs .core .capture) (frame-history (history depth cs)) history-told
+  -- FRAME is due at most once in a frame.
+  pub frame-due-once : frame-history (history depth cs) .due ≤ 1
+  frame-due-once = once (reached depth cs .core .capture) (frame-history (history depth cs)) history-told
 
-  -- And in a taken frame that VSYNC ends it has risen just once by then, there or before.
-  pub frame-risen-at-the-end : (f : Scan) (w : ℕ) (landing : Option ℕ) (packed : Packed)
+  -- And in a taken frame that VSYNC ends it has been due just once by then, there or before.
+  pub frame-due-at-the-end : (f : Scan) (w : ℕ) (landing : Option ℕ) (packed : Packed)
       → let s = reached depth cs .core .capture in s .frame ≡ Open true f → working-edge s w && enabled s ≡ true → blanking s w .vsync ≡ true
-      → frame-entry (frame-history (history depth cs)) (sampled s w landing packed) .risen ≡ 1
+      → frame-entry (frame-history (history depth cs)) (sampled s w landing packed) .due ≡ 1
   unfolding frame-entry
-  frame-risen-at-the-end f w landing packed e goes-on ends =
+  frame-due-at-the-end f w landing packed e goes-on ends =
       let s = reached depth cs .core .capture in
       let h = frame-history (history depth cs) in
       let now : blanking s w ≡ blanks (blanking s w .hsync) true = λ i. record { hsync = blanking s w .hsync; vsync = ends i } in

@@ -14,7 +14,7 @@ use Rattle.rules.specs.declared.Frame.{Frame}
 use Rattle.rules.specs.declared.Frame.the-variants.{Closed, Open}
 use Rattle.rules.specs.declared.Capture.{Capture}
 use Rattle.rules.specs.State.{with-cr, with-ris, with-registers, with-frame, with-rate, with-partial, raise, clear-capture, close-frame}
-use Rattle.rules.specs.Capture.{vsync-flag, line-flag, sync-flags, frame-rises, frame-flag, end-of, frame-closes, frame-end, rate-period, next-rate, open-frame, starts, start-of, frame-start}
+use Rattle.rules.specs.Capture.{Captured, flagged, vsync-flag, line-flag, sync-flags, end-of, frame-closes, rate-period, next-rate, open-frame, starts, start-of, frame-start}
 use Rattle.rules.specs.WellFormed.{unused-bits}
 use Rattle.bits.proofs.Booleans.{and-true, by-cond, either}
 use Rattle.rules.proofs.WellFormed.{CaptureOk}
@@ -71,12 +71,6 @@ unfolding clear-capture with-registers with-cr
 clear-capture-kept s = record { ok = λ n h. clear-capture-ok h; half = lowered-half (s .registers .cr); overrun = refl; error = refl; pins = refl; fewer = omega arith }
 
 -- Rule 4.
-frame-flag-kept : (f : Frame) (s : Capture) (now : Syncs) → Kept s (frame-flag f s now)
-unfolding frame-flag
-frame-flag-kept Closed s now = kept s
-frame-flag-kept (Open taken f) s now =
-    either (Kept s) (taken && frame-rises s f now) (raise-kept 0 s (omega arith) (omega arith) (omega arith)) (kept s)
-
 close-frame-kept : (s : Capture) → Kept s (close-frame s)
 unfolding close-frame with-frame with-partial
 close-frame-kept s = record { ok = λ n h. close-frame-ok h; half = refl; overrun = refl; error = refl; pins = refl; fewer = omega arith }
@@ -87,13 +81,14 @@ end-of-kept Closed s = kept s
 end-of-kept (Open taken f) s =
     then (either (Kept s) (taken && snapshot (s .registers .cr)) (clear-capture-kept s) (kept s)) (close-frame-kept _)
 
-frame-closes-kept : (s : Capture) (now : Syncs) → Kept s (frame-closes s now)
+pub frame-closes-kept : (s : Capture) (now : Syncs) → Kept s (frame-closes s now)
 unfolding frame-closes
 frame-closes-kept s now = either (Kept s) (now .vsync) (end-of-kept (s .frame) s) (kept s)
 
-pub frame-end-kept : (s : Capture) (now : Syncs) → Kept s (frame-end s now)
-unfolding frame-end
-frame-end-kept s now = then (frame-flag-kept (s .frame) s now) (frame-closes-kept _ now)
+-- FRAME, where it is due.
+pub flagged-kept : (c : Captured) → Kept (c .state) (flagged c)
+unfolding flagged
+flagged-kept c = either (Kept (c .state)) (c .due) (raise-kept 0 (c .state) (omega arith) (omega arith) (omega arith)) (kept _)
 
 -- Rule 5. A frame starts with CAPTURE 1, and so with ENABLE 1.
 pub period-positive : (cr : ℕ) → 0 < rate-period cr
@@ -147,5 +142,5 @@ unfolding frame-start
 frame-start-kept s now = start-of-kept (s .frame) now s refl
 
 -- Rules 3 to 5.
-pub early-kept : (s : Capture) (now : Syncs) → Kept s (frame-start (frame-end (sync-flags s now) now) now)
-early-kept s now = then (sync-flags-kept s now) (then (frame-end-kept _ now) (frame-start-kept _ now))
+pub early-kept : (s : Capture) (now : Syncs) → Kept s (frame-start (frame-closes (sync-flags s now) now) now)
+early-kept s now = then (sync-flags-kept s now) (then (frame-closes-kept _ now) (frame-start-kept _ now))

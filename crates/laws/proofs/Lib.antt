@@ -14,5 +14,7 @@ pub mod WindowLines
 pub mod FrameEdges
 pub mod FrameHistory
 pub mod FrameFlag
+pub mod Unpadded
 pub mod Before
 pub mod Depth
+pub mod Padding

@@ -1,15 +1,16 @@
 -- What a sample makes of the capture state (`Moved`): a well-formed one stays so, with one more allowed in the bound on lines and pixels; CR stays but for
--- CAPTURE, OVR, ERR and the pins stay, and at most one datum is packed. The idea: rules 3 to 5 pack none (`Kept`), and rules 6 to 8 leave the registers. Assumes nothing.
-use mathlib.Core.Bool.{Bool, true, _&&_}
+-- CAPTURE, OVR, ERR and the pins stay, and at most one datum is packed. The idea: rules 3 to 5 pack none (`Kept`), and rules 6 to 8 leave the registers. FRAME, where it is due after the
+-- sample, changes none of this. Assumes nothing.
+use mathlib.Core.Bool.{Bool, true, false, cond, _&&_}
 use mathlib.Core.Option.{Option, none, some}
 use mathlib.Core.Path.{_≡_, refl, _∙_}
 use Prim.Native.Nat.{ℕ, _+_, _/_, _≤_}
 use native.Mathlib.Omega.{arith}
-use lib.Dec.{ltb}
+use lib.Dec.{eqb, ltb}
 use lib.Pow.{pow-pos}
 use borrow.Author.Tests.{ltb-true, ltb-false}
 use Rattle.bits.specs.Bits.{bit}
-use Rattle.registers.specs.Control.{edm, enable}
+use Rattle.registers.specs.Control.{jpeg, edm, enable}
 use Rattle.samples.specs.Samples.{pixel-data}
 use Rattle.packing.specs.Packing.{per-word}
 use Rattle.packing.proofs.Lanes.{per-word-positive}
@@ -18,19 +19,31 @@ use Rattle.rules.specs.declared.Scan.{Scan}
 use Rattle.rules.specs.declared.Frame.{Frame}
 use Rattle.rules.specs.declared.Frame.the-variants.{Closed, Open}
 use Rattle.rules.specs.declared.Capture.{Capture}
-use Rattle.rules.specs.State.{no-partial, is-taken, with-pins, with-syncs, with-frame, with-partial}
-use Rattle.rules.specs.Capture.{Captured, no-word, working-edge, enabled, remember-pins, blanking, any-blanks, line-begins, next-pixel, captured, pack, pixel, pixel-in, pixel-edge, remember-syncs, at-edge, capture-sample}
-use Rattle.bits.proofs.Booleans.{and-true, by-cond, either}
+use Rattle.rules.specs.State.{no-partial, is-taken, with-pins, with-syncs, with-frame, with-partial, close-frame}
+use Rattle.rules.specs.Capture.{Captured, no-word, working-edge, enabled, remember-pins, blanking, any-blanks, sync-flags, padded, end-of, frame-closes, frame-pads, frame-end, frame-start, line-begins, next-pixel, captured, pack, pixel, pixel-in, pixel-edge, either-word, at-edge, capture-sample, next-capture}
+use Rattle.bits.proofs.Booleans.{and-true, or-true, by-cond, either}
 use Rattle.rules.proofs.WellFormed.{CaptureOk}
-use Rattle.laws.proofs.RegisterValues.{same-edm, half-setup, half-enable}
+use Rattle.laws.proofs.RegisterValues.{same-edm, same-jpeg, half-setup, half-enable}
 use Rattle.laws.proofs.Packing.{packed-partial}
 use Rattle.laws.proofs.CaptureParts.{pins-syncs-ok, partial-ok, scan-ok}
-use Rattle.laws.proofs.Kept.{Kept, kept, early-kept}
+use Rattle.laws.proofs.Kept.{Kept, kept, sync-flags-kept, flagged-kept, frame-start-kept, early-kept}
 
 -- Without a word something counted grows by at most 1; a word comes when it would reach q, and leaves it at 0.
 abbrev pub Paced : ℕ → ℕ → ℕ → Option ℕ → Type 0
 Paced q before after none = after ≤ before + 1
 Paced q before after (some v) = (q ≤ before + 1) × (after ≡ 0)
+
+-- The working edges that a word takes at least: one for each datum; with JPEG two, that of a datum and the frame's end (W4).
+unfoldable pub edges : ℕ → ℕ
+edges cr = cond (jpeg cr) 2 (per-word (edm cr))
+
+same-edges : (x y : ℕ) → x / 2 ≡ y / 2 → edges x ≡ edges y
+unfolding edges
+same-edges x y h = rw (same-jpeg x y (half-setup x y h), same-edm x y (half-setup x y h))
+
+edges-least : (cr : ℕ) → edges cr ≤ per-word (edm cr)
+unfolding edges per-word
+edges-least cr = either (λ n. n ≤ per-word (edm cr)) (jpeg cr) (either (λ n. 2 ≤ n) (eqb (edm cr) 0) (omega arith) (omega arith)) (omega arith)
 
 pub record Moved (s : Capture) (c : Captured) : Type 0 where
   pub ok : (n : ℕ) → CaptureOk n s → CaptureOk (n + 1) (c .state)
@@ -38,7 +51,7 @@ pub record Moved (s : Capture) (c : Captured) : Type 0 where
   pub overrun : bit 1 (c .state .registers .ris) ≡ bit 1 (s .registers .ris)
   pub error : bit 2 (c .state .registers .ris) ≡ bit 2 (s .registers .ris)
   pub pins : c .state .pins ≡ s .pins
-  pub paced : Paced (per-word (edm (s .registers .cr))) (s .partial .count) (c .state .partial .count) (c .word)
+  pub paced : Paced (edges (s .registers .cr)) (s .partial .count) (c .state .partial .count) (c .word)
 
 -- After rules that keep: the same of the state before them.
 same-pace : (q p p′ a : ℕ) (o : Option ℕ) → p′ ≤ p → Paced q p′ a o → Paced q p a o
@@ -53,7 +66,7 @@ after {s} {t} {c} k m =
       overrun = m .overrun ∙ k .overrun;
       error = m .error ∙ k .error;
       pins = m .pins ∙ k .pins;
-      paced = same-pace _ _ _ _ (c .word) (k .fewer) (rw (same-edm _ _ (half-setup _ _ (k .half))) at (m .paced));
+      paced = same-pace _ _ _ _ (c .word) (k .fewer) (rw (same-edges _ _ (k .half)) at (m .paced));
     }
 
 grow : {n : ℕ} {s : Capture} → CaptureOk n s → CaptureOk (n + 1) s
@@ -88,7 +101,7 @@ pack-ok {n} {s} x taken h =
 record Packed (s : Capture) (c : Captured) : Type 0 where
   registers : c .state .registers ≡ s .registers
   pins : c .state .pins ≡ s .pins
-  paced : Paced (per-word (edm (s .registers .cr))) (s .partial .count) (c .state .partial .count) (c .word)
+  paced : Paced (edges (s .registers .cr)) (s .partial .count) (c .state .partial .count) (c .word)
 
 pack-paced : (s : Capture) (x : ℕ) → Packed s (pack s x)
 unfolding pack no-word with-partial
@@ -97,7 +110,7 @@ pack-paced s x =
     let q = per-word (edm (s .registers .cr)) in
     by-cond (Packed s) (ltb (p + 1) q) _ _
     (λ short. record { registers = refl; pins = refl; paced = omega arith })
-    (λ full. record { registers = refl; pins = refl; paced = (ltb-false (p + 1) q full, refl) })
+    (λ full. record { registers = refl; pins = refl; paced = (omega (arith, ltb-false (p + 1) q full, edges-least (s .registers .cr)), refl) })
 
 pixel-moved : (s : Capture) (taken : Bool) (f : Scan) (x : ℕ) → s .frame ≡ Open taken f → Moved s (pixel s taken f x)
 unfolding pixel captured with-frame no-word
@@ -116,28 +129,73 @@ pixel-moved s taken f x in-f =
     })
     (λ t. record { ok = λ n h. next-pixel-ok taken f in-f h; half = refl; overrun = refl; error = refl; pins = refl; paced = omega arith })
 
-pixel-in-moved : (f : Frame) (s : Capture) (now : Syncs) (x : ℕ) → s .frame ≡ f → Moved s (pixel-in f s now x)
+pub pixel-in-moved : (f : Frame) (s : Capture) (now : Syncs) (x : ℕ) → s .frame ≡ f → Moved s (pixel-in f s now x)
 unfolding pixel-in
 pixel-in-moved Closed s now x in-f = no-word-moved (kept s)
 pixel-in-moved (Open taken f) s now x in-f = either (Moved s) (any-blanks now) (no-word-moved (kept s)) (pixel-moved s taken f x in-f)
 
--- The syncs remembered.
-syncs-moved : {s : Capture} (c : Captured) (now : Syncs) → Moved s c → Moved s (remember-syncs now c)
-unfolding remember-syncs with-syncs with-pins
-syncs-moved c now m =
+-- W4: a frame's end pads a word with JPEG and a datum at least, and leaves none; VSYNC blanks.
+abbrev Padding : Capture → Capture → Bool → Option ℕ → Type 0
+Padding s t vsync none = Unit {0}
+Padding s t vsync (some v) = (jpeg (s .registers .cr) ≡ true) × (1 ≤ s .partial .count) × (t .partial .count ≡ 0) × (vsync ≡ true)
+
+padded-padding : (f : Frame) (s : Capture) → Padding s (end-of f s) true (padded f s)
+unfolding padded end-of close-frame with-partial with-frame
+padded-padding Closed s = tt
+padded-padding (Open taken f) s =
+    let compressed = jpeg (s .registers .cr) in
+    let some-data = ltb 0 (s .partial .count) in
+    by-cond (Padding s (end-of (Open taken f) s) true) (taken && compressed && some-data) _ _
+    (λ t.
+    let (both, more) = and-true (taken && compressed) some-data t in
+    (and-true taken compressed both .1, ltb-true 0 (s .partial .count) more, refl, refl))
+    (λ t. tt)
+
+frame-pads-padding : (s : Capture) (now : Syncs) → Padding s (frame-closes s now) (now .vsync) (frame-pads s now)
+unfolding frame-closes frame-pads
+frame-pads-padding s now = go (now .vsync)
+  where
+    go : (vsync : Bool) → Padding s (cond vsync (end-of (s .frame) s) s) vsync (cond vsync (padded (s .frame) s) none)
+    go true = padded-padding (s .frame) s
+    go false = tt
+
+-- Where a sync blanks there is no pixel.
+pub no-pixel : (f : Frame) (s : Capture) (now : Syncs) (x : ℕ) → any-blanks now ≡ true → pixel-in f s now x ≡ no-word s
+unfolding pixel-in
+no-pixel Closed s now x e = refl
+no-pixel (Open taken f) s now x e = rw e
+
+-- Rules 3 to 8.
+edge-paced : (s : Capture) (now : Syncs) (x : ℕ) → (o : Option ℕ) → Padding (sync-flags s now) (frame-closes (sync-flags s now) now) (now .vsync) o
+    → let u = frame-start (frame-closes (sync-flags s now) now) now in
+    let p = pixel-in (u .frame) u now x in Moved s p
+    → Paced (edges (s .registers .cr)) (s .partial .count) (p .state .partial .count) (either-word o (p .word))
+unfolding either-word no-word edges
+edge-paced s now x none h m = m .paced
+edge-paced s now x (some v) h m =
+    let t = sync-flags s now in
+    let k = sync-flags-kept s now in
+    let u = frame-start (frame-closes t now) now in
+    let (compressed, one, empty, blanks) = h in
+    let some-blanks : any-blanks now ≡ true = rw blanks (or-true (now .hsync)) in
+    let none-left : u .partial .count ≤ frame-closes t now .partial .count = frame-start-kept (frame-closes t now) now .fewer in
+    let same : edges (s .registers .cr) ≡ 2 = rw (← same-edges (t .registers .cr) (s .registers .cr) (k .half), compressed) in
+    (rw same (omega (arith, one, k .fewer)), rw (no-pixel (u .frame) u now x some-blanks) (omega (arith, none-left, empty)))
+
+pub at-edge-moved : (s : Capture) (now : Syncs) (x : ℕ) → Moved s (at-edge s now x)
+unfolding at-edge frame-end pixel-edge with-syncs with-pins
+at-edge-moved s now x =
+    let t = sync-flags s now in
+    let u = frame-start (frame-closes t now) now in
+    let m = after (early-kept s now) (pixel-in-moved (u .frame) u now x refl) in
     record {
-      ok = λ n h. pins-syncs-ok (c .state .pins) now (omega arith) (m .ok n h);
+      ok = λ n h. pins-syncs-ok (pixel-in (u .frame) u now x .state .pins) now (omega arith) (m .ok n h);
       half = m .half;
       overrun = m .overrun;
       error = m .error;
       pins = m .pins;
-      paced = m .paced;
+      paced = edge-paced s now x (frame-pads t now) (frame-pads-padding t now) m;
     }
-
--- Rules 3 to 8.
-pub at-edge-moved : (s : Capture) (now : Syncs) (x : ℕ) → Moved s (at-edge s now x)
-unfolding at-edge pixel-edge
-at-edge-moved s now x = syncs-moved _ now (after (early-kept s now) (pixel-in-moved _ _ now x refl))
 
 -- Rules 2 to 8, once the pins are remembered.
 pub sample-moved : (s : Capture) (w : ℕ) → Moved (remember-pins w s) (capture-sample s w)
@@ -155,6 +213,22 @@ sample-ok {n} {s} w h = sample-moved s w .ok n (pins-syncs-ok _ (s .syncs) (omeg
 pub sample-enable : (s : Capture) (w : ℕ) → enable (capture-sample s w .state .registers .cr) ≡ enable (s .registers .cr)
 unfolding remember-pins with-pins
 sample-enable s w = half-enable _ _ (sample-moved s w .half)
+
+-- After a sample that loses no word, FRAME raised where it is due.
+pub next-ok : {n : ℕ} {s : Capture} (w : ℕ) → CaptureOk n s → CaptureOk (n + 1) (next-capture s w)
+unfolding next-capture
+next-ok {n} {s} w h = flagged-kept (capture-sample s w) .ok (n + 1) (sample-ok w h)
+
+pub next-half : (s : Capture) (w : ℕ) → next-capture s w .registers .cr / 2 ≡ s .registers .cr / 2
+unfolding next-capture remember-pins with-pins
+next-half s w = flagged-kept (capture-sample s w) .half ∙ sample-moved s w .half
+
+pub next-overrun : (s : Capture) (w : ℕ) → bit 1 (next-capture s w .registers .ris) ≡ bit 1 (s .registers .ris)
+unfolding next-capture remember-pins with-pins
+next-overrun s w = flagged-kept (capture-sample s w) .overrun ∙ sample-moved s w .overrun
+
+pub next-enable : (s : Capture) (w : ℕ) → enable (next-capture s w .registers .cr) ≡ enable (s .registers .cr)
+next-enable s w = half-enable _ _ (next-half s w)
 
 pub word-enabled : (s : Capture) (w v : ℕ) → capture-sample s w .word ≡ some v → enable (s .registers .cr) ≡ true
 unfolding capture-sample no-word

@@ -9,7 +9,7 @@ use native.Mathlib.Omega.{arith}
 use lib.Dec.{eqb}
 use borrow.Author.Tests.{eqb-true, eqb-false, ne-eqb, not-false}
 use Rattle.bits.specs.Bits.{bit, field}
-use Rattle.registers.specs.Control.{capture, crop, jpeg, embedded, fcrc, edm, enable, unsupported}
+use Rattle.registers.specs.Control.{capture, crop, jpeg, embedded, fcrc, edm, enable, unsupported-jpeg, unsupported, vspol}
 use Rattle.registers.specs.Map.{reserved-set}
 use Rattle.registers.specs.declared.Register.the-variants.{Control, InterruptEnable, WindowStart, WindowSize}
 use Rattle.rules.specs.declared.Registers.{Registers}
@@ -87,15 +87,19 @@ lowered-reserved : (x : ℕ) → reserved-set Control (lowered 0 x) ≡ reserved
 lowered-reserved x = rw (same-above 11 _ _ (lowered-half x), same-above 14 _ _ (lowered-half x))
 
 supported : (x : ℕ) → unsupported x ≡ false
-    → (jpeg x || embedded x || eqb (fcrc x) 3 ≡ false) × (capture x && not (enable x) ≡ false)
+    → (unsupported-jpeg x || embedded x || eqb (fcrc x) 3 ≡ false) × (capture x && not (enable x) ≡ false)
 unfolding unsupported
-supported x e = or-false (jpeg x || embedded x || eqb (fcrc x) 3) (capture x && not (enable x)) e
+supported x e = or-false (unsupported-jpeg x || embedded x || eqb (fcrc x) 3) (capture x && not (enable x)) e
+
+lowered-jpeg : (x : ℕ) → unsupported-jpeg (lowered 0 x) ≡ unsupported-jpeg x
+unfolding unsupported-jpeg
+lowered-jpeg x = rw (same-above 2 _ _ (lowered-half x), same-above 9 _ _ (lowered-half x), same-above 1 _ _ (lowered-half x))
 
 lowered-supported : (x : ℕ) → unsupported x ≡ false → unsupported (lowered 0 x) ≡ false
 unfolding unsupported
 lowered-supported x e =
-    both-false (jpeg (lowered 0 x) || embedded (lowered 0 x) || eqb (fcrc (lowered 0 x)) 3) _
-    (rw (same-above 2 _ _ (lowered-half x), same-above 3 _ _ (lowered-half x), same-above 7 _ _ (lowered-half x)) (supported x e .0))
+    both-false (unsupported-jpeg (lowered 0 x) || embedded (lowered 0 x) || eqb (fcrc (lowered 0 x)) 3) _
+    (rw (lowered-jpeg, same-above 3 _ _ (lowered-half x), same-above 7 _ _ (lowered-half x)) (supported x e .0))
     (rw (lowered-capture x))
 
 pub capture-enable : (x : ℕ) → unsupported x ≡ false → capture x ≡ true → enable x ≡ true
@@ -109,6 +113,12 @@ same-edm x y h = omega arith
 
 pub same-crop : (x y : ℕ) → field 13 1 x ≡ field 13 1 y → crop x ≡ crop y
 same-crop x y h = let same : x / 2 ^ 2 % 2 ≡ y / 2 ^ 2 % 2 = omega arith in rw same
+
+pub same-jpeg : (x y : ℕ) → field 13 1 x ≡ field 13 1 y → jpeg x ≡ jpeg y
+same-jpeg x y h = let same : x / 2 ^ 3 % 2 ≡ y / 2 ^ 3 % 2 = omega arith in rw same
+
+pub same-vspol : (x y : ℕ) → field 13 1 x ≡ field 13 1 y → vspol x ≡ vspol y
+same-vspol x y h = let same : x / 2 ^ 7 % 2 ≡ y / 2 ^ 7 % 2 = omega arith in rw same
 
 -- What refusals 4 and 5 exclude, test by test.
 abbrev pub tests : Registers → List Bool
@@ -140,3 +150,17 @@ pub lowered-allowed : (r : Registers) → excluded r ≡ false → excluded (wit
 lowered-allowed r e =
     let (cr, (ier, (start, (size, (supported, end))))) = allowed r e in
     allowed-cr (lowered 0 (r .cr)) r (rw lowered-reserved cr) (lowered-supported (r .cr) supported) e
+
+-- JPEG goes without CROP (W4).
+of-either : (a b c : Bool) → a && (b || c) ≡ false → a && c ≡ false
+of-either false b c e = refl
+of-either true b c e = or-false b c e .1
+
+pub uncropped : (r : Registers) → excluded r ≡ false → jpeg (r .cr) && crop (r .cr) ≡ false
+unfolding unsupported unsupported-jpeg
+uncropped r e =
+    let (_, (_, (_, (_, (supported, _))))) = allowed r e in
+    let three = unsupported-jpeg (r .cr) || embedded (r .cr) || eqb (fcrc (r .cr)) 3 in
+    let first-three = or-false three (capture (r .cr) && not (enable (r .cr))) supported .0 in
+    let first-two = or-false (unsupported-jpeg (r .cr) || embedded (r .cr)) (eqb (fcrc (r .cr)) 3) first-three .0 in
+    of-either (jpeg (r .cr)) (not (eqb (edm (r .cr)) 0)) (crop (r .cr)) (or-false (unsupported-jpeg (r .cr)) (embedded (r .cr)) first-two .0)

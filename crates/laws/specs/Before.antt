@@ -1,15 +1,18 @@
 -- Rules as they stood before a request, for the laws that say what it leaves as it was.
-use mathlib.Core.Bool.{cond, _&&_}
+use mathlib.Core.Bool.{false, cond, _&&_}
 use mathlib.Core.List.{List, [], _∷_}
 use Prim.Native.Nat.{ℕ}
 use Rattle.registers.specs.Control.{snapshot}
-use Rattle.samples.specs.Samples.{pixel-data}
+use Rattle.samples.specs.Samples.{pixel-data, bus-grant}
+use Rattle.output.specs.Output.{grant}
 use Rattle.rules.specs.declared.Syncs.{Syncs}
 use Rattle.rules.specs.declared.Frame.{Frame}
 use Rattle.rules.specs.declared.Frame.the-variants.{Closed, Open}
 use Rattle.rules.specs.declared.Capture.{Capture}
-use Rattle.rules.specs.State.{raise, clear-capture, close-frame}
-use Rattle.rules.specs.Capture.{Captured, no-word, working-edge, enabled, remember-pins, blanking, sync-flags, frame-start, pixel-edge, remember-syncs}
+use Rattle.rules.specs.declared.Device.{Device}
+use Rattle.rules.specs.State.{capture-of, output-of, with-syncs, raise, clear-capture, close-frame}
+use Rattle.rules.specs.Capture.{Captured, no-word, working-edge, enabled, remember-pins, blanking, sync-flags, frame-due, frame-closes, frame-start, pixel-edge}
+use Rattle.rules.specs.Run.{complete, Stepped, counted}
 
 -- Before W1, rule 4 in document 01's words: an open frame closes when VSYNC blanks. A partial word is dropped. If the frame was one of those taken, FRAME rises and, with CM 1,
 -- CAPTURE becomes 0.
@@ -21,17 +24,37 @@ ends-before-W1 (Open taken f) s =
 unfoldable pub frame-end-before-W1 : Capture → Syncs → Capture
 frame-end-before-W1 s now = cond (now .vsync) (ends-before-W1 (s .frame) s) s
 
--- And with it a working edge, and a sample.
-unfoldable pub at-edge-before-W1 : Capture → Syncs → ℕ → Captured
-at-edge-before-W1 s now x = remember-syncs now (pixel-edge (frame-start (frame-end-before-W1 (sync-flags s now) now) now) now x)
+-- Before W4, rule 4 with W1: FRAME, and then the frame's end, which drops a partial word.
+unfoldable pub frame-end-before-W4 : Capture → Syncs → Capture
+frame-end-before-W4 s now = frame-closes (cond (frame-due (s .frame) s now) (raise 0 s) s) now
 
-unfoldable pub capture-sample-before-W1 : Capture → ℕ → Captured
-capture-sample-before-W1 s w =
+-- With one of them the rules 3 to 8 at a working edge, and the rules 2 to 8: FRAME rises in them, and none is due after them.
+unfoldable pub at-edge-by : (Capture → Syncs → Capture) → Capture → Syncs → ℕ → Captured
+at-edge-by frame-end s now x =
+    let p = pixel-edge (frame-start (frame-end (sync-flags s now) now) now) now x in
+    record { state = with-syncs now (p .state); word = p .word; due = false }
+
+unfoldable pub capture-sample-by : (Capture → Syncs → Capture) → Capture → ℕ → Captured
+capture-sample-by frame-end s w =
     cond (working-edge s w && enabled s)
-    (at-edge-before-W1 (remember-pins w s) (blanking s w) (pixel-data w))
+    (at-edge-by frame-end (remember-pins w s) (blanking s w) (pixel-data w))
     (no-word (remember-pins w s))
 
--- What some samples make of a state one after the other, by one rule or another for a sample: the state and the word after each.
-unfoldable pub captured-by : (Capture → ℕ → Captured) → Capture → List ℕ → List Captured
-captured-by rule s [] = []
-captured-by rule s (w ∷ ws) = rule s w ∷ captured-by rule (rule s w .state) ws
+-- The nine rules with them, as `step` has them.
+unfoldable pub step-by : (Capture → Syncs → Capture) → Device → List ℕ → ℕ → Stepped
+step-by frame-end d buffer w =
+    let s = capture-of d in
+    let g = grant (bus-grant w) (enabled s) (counted (output-of d)) buffer in
+    let c = complete (capture-sample-by frame-end s w .word) (capture-sample-by frame-end s w) (g .state) in
+    record { device = c .device; buffer = g .buffer; landing = g .landing; packed = c .packed }
+
+abbrev pub step-before-W1 : Device → List ℕ → ℕ → Stepped
+step-before-W1 = step-by frame-end-before-W1
+
+abbrev pub step-before-W4 : Device → List ℕ → ℕ → Stepped
+step-before-W4 = step-by frame-end-before-W4
+
+-- What some samples make of device and frame buffer one after the other, by one rule or another for a sample: both, and the answers, after each.
+unfoldable pub stepped-by : (Device → List ℕ → ℕ → Stepped) → Device → List ℕ → List ℕ → List Stepped
+stepped-by rule d buffer [] = []
+stepped-by rule d buffer (w ∷ ws) = let r = rule d buffer w in r ∷ stepped-by rule (r .device) (r .buffer) ws

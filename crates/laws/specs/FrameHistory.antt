@@ -1,5 +1,5 @@
 -- FRAME, from the history (request W1): what has happened in the frame that started last, kept by the events of a list of calls alone.
-use mathlib.Core.Bool.{Bool, false, cond, _&&_, _||_}
+use mathlib.Core.Bool.{Bool, true, false, cond, _&&_, _||_}
 use mathlib.Core.List.{List, [], _∷_}
 use Prim.Native.Nat.{ℕ, _+_}
 use lib.Dec.{ltb}
@@ -9,27 +9,24 @@ use Rattle.rules.specs.declared.Syncs.{Syncs}
 use Rattle.rules.specs.declared.Frame.{Frame}
 use Rattle.rules.specs.declared.Frame.the-variants.{Closed, Open}
 use Rattle.rules.specs.declared.Capture.{Capture}
-use Rattle.rules.specs.Capture.{working-edge, enabled, blanking, frame-rises, starts}
+use Rattle.rules.specs.Capture.{working-edge, enabled, blanking, frame-due, starts}
+use Rattle.rules.specs.Run.{Packed, nothing, completed, lost}
 use Rattle.laws.specs.Histories.{Event, sampled, disabled}
 
--- Since the frame started, HSYNC has blanked at a working edge after line VST + VLINE had begun; and how often rule 4 has raised FRAME.
+-- Since the frame started, HSYNC has blanked at a working edge after line VST + VLINE had begun; and how often FRAME was due by rule 4.
 pub record FrameHistory : Type 0 where
   pub ended : Bool
-  pub risen : ℕ
+  pub due : ℕ
 
 unfoldable pub no-history : FrameHistory
-no-history = record { ended = false; risen = 0 }
+no-history = record { ended = false; due = 0 }
 
 -- Line VST + VLINE has begun in an open frame. Lines count from 0, so more than VST + VLINE have.
 unfoldable pub last-line-begun : Registers → Frame → Bool
 last-line-begun r Closed = false
 last-line-begun r (Open taken f) = ltb (vst (r .cwstrt) + vline (r .cwsize)) (f .lines)
 
--- Rule 4 raises FRAME at a working edge; rule 5 starts a frame there.
-unfoldable pub raises-frame : Frame → Capture → Syncs → Bool
-raises-frame Closed s now = false
-raises-frame (Open taken f) s now = taken && frame-rises s f now
-
+-- Rule 5 starts a frame at a working edge.
 unfoldable pub starts-frame : Frame → Capture → Syncs → Bool
 starts-frame Closed s now = starts s now
 starts-frame (Open taken f) s now = false
@@ -41,7 +38,7 @@ edge-entry h s now =
     no-history
     (record {
       ended = h .ended || (last-line-begun (s .registers) (s .frame) && now .hsync);
-      risen = cond (raises-frame (s .frame) s now) (h .risen + 1) (h .risen);
+      due = cond (frame-due (s .frame) s now) (h .due + 1) (h .due);
     })
 
 unfoldable pub frame-entry : FrameHistory → Event → FrameHistory
@@ -54,3 +51,9 @@ frame-entries h (e ∷ es) = frame-entries (frame-entry h e) es
 
 abbrev pub frame-history : List Event → FrameHistory
 frame-history es = frame-entries no-history es
+
+-- W4: a sample's word was lost. FRAME rises where it is due and no word is lost (`frame-rises-by-rule-4`).
+unfoldable pub is-lost : Packed → Bool
+is-lost nothing = false
+is-lost (completed v) = false
+is-lost lost = true

@@ -2,3 +2,4 @@ pub mod Histories
 pub mod Ledger
 pub mod FrameHistory
 pub mod Before
+pub mod Padding

@@ -14,7 +14,7 @@ number NoRegister = 2
 number AccessKind = 3
 -- a reserved bit of the written value is 1
 number ReservedBit = 4
--- CR value with JPEG 1, ESS 1, FCRC 3, or CAPTURE 1 and ENABLE 0
+-- CR value with JPEG 1 otherwise than with EDM 0 and CROP 0 (W4), ESS 1, FCRC 3, or CAPTURE 1 and ENABLE 0
 number Unsupported = 5
 -- ENABLE is 1 and CWSTRT or CWSIZE is written, or a CR bit other than 0 and 14 would change
 number Enabled = 6

@@ -39,6 +39,10 @@ edm cr = field 11 10 cr
 abbrev pub enable : ℕ → Bool
 enable cr = bit 14 cr
 
--- A CR value with JPEG 1, ESS 1, FCRC 3, or CAPTURE 1 and ENABLE 0: refusal 5.
+-- W4 (004, 32.3.9): JPEG 1 with an EDM other than 0, or with CROP 1.
+unfoldable pub unsupported-jpeg : ℕ → Bool
+unsupported-jpeg cr = jpeg cr && (not (eqb (edm cr) 0) || crop cr)
+
+-- A CR value with JPEG 1 otherwise than with EDM 0 and CROP 0 (W4), ESS 1, FCRC 3, or CAPTURE 1 and ENABLE 0: refusal 5.
 unfoldable pub unsupported : ℕ → Bool
-unsupported cr = jpeg cr || embedded cr || eqb (fcrc cr) 3 || (capture cr && not (enable cr))
+unsupported cr = unsupported-jpeg cr || embedded cr || eqb (fcrc cr) 3 || (capture cr && not (enable cr))

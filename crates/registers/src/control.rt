@@ -68,11 +68,24 @@ pub fn enable(cr: u32) -> bool
     cr / 0x4000 % 2 == 1
 }
 
-// Whether the value is one that CR refuses: JPEG, embedded codes, FCRC 3, or CAPTURE without ENABLE.
+// W4: JPEG with an EDM other than 0, or with CROP.
+fn unsupported_jpeg(cr: u32) -> bool
+    ensures { λ r. ⌜ r ≡ control-fields.unsupported-jpeg cr ⌝ }
+{
+    if jpeg(cr) {
+        if edm(cr) == 0 {
+            return crop(cr);
+        }
+        return true;
+    }
+    false
+}
+
+// Whether the value is one that CR refuses: JPEG otherwise than with EDM 0 and CROP 0, embedded codes, FCRC 3, or CAPTURE without ENABLE.
 pub fn unsupported(cr: u32) -> bool
     ensures { λ r. ⌜ r ≡ control-fields.unsupported cr ⌝ }
 {
-    if jpeg(cr) {
+    if unsupported_jpeg(cr) {
         return true;
     }
     if embedded(cr) {

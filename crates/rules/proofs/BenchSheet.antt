@@ -16,7 +16,7 @@ use lib.Dec.{eqb}
 use lib.ListN.{length, drop, replicate}
 use Rattle.registers.specs.Map.{offset, every, access, is-control, is-window, reserved, mask}
 use Rattle.registers.specs.declared.Register.{Register}
-use Rattle.registers.specs.declared.Register.the-variants.{Control, RawStatus, InterruptEnable, InterruptClear, WindowStart, WindowSize}
+use Rattle.registers.specs.declared.Register.the-variants.{Control, Status, RawStatus, InterruptEnable, InterruptClear, WindowStart, WindowSize}
 use Rattle.registers.specs.declared.Access.{Access}
 use Rattle.registers.specs.declared.Access.the-variants.{ReadWrite, ReadOnly, WriteOnly}
 use Rattle.refusals.specs.Refusals as refusals
@@ -102,6 +102,9 @@ made c =
 abbrev pub CR : ℕ
 CR = offset Control
 
+abbrev pub SR : ℕ
+SR = offset Status
+
 abbrev pub RIS : ℕ
 RIS = offset RawStatus
 
@@ -164,8 +167,8 @@ starred =
     (edges (blank ∷ 2731 ∷ 2331 ∷ 2732 ∷ []) ++ granted 2733)
     []
     (leaves (0 ∷ 0 ∷ 0 ∷ 0 ∷ []) (0x0AAC091B ∷ []) 0 0 0x48E7 0x18 0) ∷
-    -- refused writes
-    case (CR ≔ 0x8 ∷ CR ≔ 0x1008 ∷ []) [] [] (leaves (5 ∷ 4 ∷ 0 ∷ []) [] 0 0 0 0 3) ∷
+    -- CR 0x8, accepted since W4, and refused writes
+    case (CR ≔ 0x8 ∷ CR ≔ 0x1008 ∷ []) [] [] (leaves (0 ∷ 4 ∷ 0 ∷ []) [] 0 0 0x8 0 3) ∷
     case (CR ≔ 0x48E3 ∷ CWSTRT ≔ 0 ∷ []) [] [] (leaves (0 ∷ 6 ∷ 0 ∷ []) [] 0 0 0x48E3 0 0) ∷
     -- a sample with a bit above 17, and with all bits up to it
     case [] (0x40000 ∷ []) [] (leaves (7 ∷ []) [] 0 0 0 0 3) ∷
@@ -524,13 +527,13 @@ by-call =
     a-read CWSTRT ▸ reads 0x1FFF3FFF ∷
     a-read CWSIZE ▸ reads 0x3FFF3FFF ∷
     []) ∷
-    -- refusal 5: ESS, FCRC 3, CAPTURE 1 with ENABLE 0 (JPEG is starred); 4 and 5 are before 6
+    -- refusal 5: ESS, FCRC 3, CAPTURE 1 with ENABLE 0 (JPEG is in RequestSheet); 4 and 5 are before 6
     log fresh []
     (all-refused 5 (CR ≔ 0x10 ∷ CR ≔ 0x300 ∷ CR ≔ 0x01 ∷ []) ++
     a-write CR 0x4001 ▸ done ∷
     all-refused 5 (CR ≔ 0x4301 ∷ []) ++
     all-refused 4 (CWSTRT ≔ 0x4000 ∷ CR ≔ 0x5003 ∷ [])) ∷
-    -- refusal 6: enabled, each bit of CR that is not reserved or unsupported, but for 0 and 14; CWSIZE (CWSTRT is starred); IER and ICR are free
+    -- refusal 6: enabled, each bit of CR that is not reserved or unsupported, but for 0 and 14 (JPEG is in RequestSheet); CWSIZE (CWSTRT is starred); IER and ICR are free
     log fresh []
     (a-write CR 0x48E2 ▸ done ∷
     all-refused 6 (CR ≔ 0x48E0 ∷ CR ≔ 0x48E6 ∷ CR ≔ 0x48C2 ∷ CR ≔ 0x48A2 ∷ CR ≔ 0x4862 ∷ CR ≔ 0x49E2 ∷ CR ≔ 0x4AE2 ∷ CR ≔ 0x4CE2 ∷ CR ≔ 0x40E2 ∷ []) ++

@@ -1,10 +1,10 @@
 -- Rules 2 to 8 of one sample (document 01, "One sample"), over the capture state: no FIFO, no memory and no grant. A sample answers
--- no word or a full word. Each rule is a definition of its own, in the paper's order; the manual's section stands beside its number.
-use mathlib.Core.Bool.{Bool, cond, not, _&&_, _||_, Bool·beq}
+-- no word or one for rule 9, and whether FRAME is due after it. Each rule is a definition of its own, in the paper's order; the manual's section stands beside its number.
+use mathlib.Core.Bool.{Bool, false, cond, not, _&&_, _||_, Bool·beq}
 use mathlib.Core.Option.{Option, none, some}
 use Prim.Native.Nat.{ℕ, _+_, _-_, _%_}
 use lib.Dec.{eqb, ltb, leb}
-use Rattle.registers.specs.Control.{capture, snapshot, crop, pckpol, hspol, vspol, fcrc, edm, enable}
+use Rattle.registers.specs.Control.{capture, snapshot, crop, jpeg, pckpol, hspol, vspol, fcrc, edm, enable}
 use Rattle.samples.specs.Samples.{pixel-data, hsync-pin, vsync-pin, clock-pin}
 use Rattle.packing.specs.Packing.{per-word, joined}
 use Rattle.rules.specs.declared.Syncs.{Syncs}
@@ -15,13 +15,18 @@ use Rattle.rules.specs.declared.Capture.{Capture}
 use Rattle.rules.specs.CropWindow.{lines-to-window-end, inside}
 use Rattle.rules.specs.State.{no-partial, raise, clear-capture, close-frame, with-pins, with-syncs, with-frame, with-rate, with-partial}
 
--- What the rules 2 to 8 make of a sample: the state after it, and the full word if there is one.
+-- What the rules 2 to 8 make of a sample: the state after it; the full word, or the padded one (W4), if there is one; and whether FRAME is due.
 pub record Captured : Type 0 where
   pub state : Capture
   pub word : Option ℕ
+  pub due : Bool
 
 unfoldable pub no-word : Capture → Captured
-no-word s = record { state = s; word = none }
+no-word s = record { state = s; word = none; due = false }
+
+-- FRAME, where it is due. W4: it rises after rule 9, and not with a word that overruns.
+unfoldable pub flagged : Captured → Capture
+flagged c = cond (c .due) (raise 0 (c .state)) (c .state)
 
 -- Rule 2 (004, 32.5.1 PCKPOL): the clock fell (PCKPOL 0) or rose (PCKPOL 1) since the last sample.
 unfoldable pub working-edge : Capture → ℕ → Bool
@@ -71,12 +76,18 @@ unfoldable pub frame-rises : Capture → Scan → Syncs → Bool
 frame-rises s f now =
     cond (crop (s .registers .cr)) (not (window-ended s f) && (hsync-after-window s f now || now .vsync)) (now .vsync)
 
--- Rule 4: FRAME, in a taken frame.
-unfoldable pub frame-flag : Frame → Capture → Syncs → Capture
-frame-flag Closed s now = s
-frame-flag (Open taken f) s now = cond (taken && frame-rises s f now) (raise 0 s) s
+-- Rule 4: FRAME is due, in a taken frame.
+unfoldable pub frame-due : Frame → Capture → Syncs → Bool
+frame-due Closed s now = false
+frame-due (Open taken f) s now = taken && frame-rises s f now
 
--- Rule 4 (004, 32.3.7): of a taken frame that ends CAPTURE becomes 0 with CM 1; a partial word is dropped.
+-- Rules 4 and 8, W4 (004, 32.3.9): with JPEG 1 the partial word of a taken frame that ends is filled with zero bytes. The bits above its data are 0, so that they are the word's as they
+-- are (crate laws, `padded-with-zeros`). A word without data is none.
+unfoldable pub padded : Frame → Capture → Option ℕ
+padded Closed s = none
+padded (Open taken f) s = cond (taken && jpeg (s .registers .cr) && ltb 0 (s .partial .count)) (some (s .partial .bits)) none
+
+-- Rule 4 (004, 32.3.7): of a taken frame that ends CAPTURE becomes 0 with CM 1; a partial word is dropped, with JPEG 1 once it has been answered.
 unfoldable pub end-of : Frame → Capture → Capture
 end-of Closed s = s
 end-of (Open taken f) s = close-frame (cond (taken && snapshot (s .registers .cr)) (clear-capture s) s)
@@ -85,9 +96,12 @@ end-of (Open taken f) s = close-frame (cond (taken && snapshot (s .registers .cr
 unfoldable pub frame-closes : Capture → Syncs → Capture
 frame-closes s now = cond (now .vsync) (end-of (s .frame) s) s
 
--- Rule 4: FRAME, and then the frame's end.
-unfoldable pub frame-end : Capture → Syncs → Capture
-frame-end s now = frame-closes (frame-flag (s .frame) s now) now
+unfoldable pub frame-pads : Capture → Syncs → Option ℕ
+frame-pads s now = cond (now .vsync) (padded (s .frame) s) none
+
+-- Rule 4: the frame's end, the word that it pads, and FRAME.
+unfoldable pub frame-end : Capture → Syncs → Captured
+frame-end s now = record { state = frame-closes s now; word = frame-pads s now; due = frame-due (s .frame) s now }
 
 -- Rule 5 (004, 32.5.1 FCRC): the rate counter counts modulo 1, 2 or 4.
 unfoldable pub rate-period : ℕ → ℕ
@@ -141,7 +155,7 @@ unfoldable pub pack : Capture → ℕ → Captured
 pack s x =
     cond (ltb (s .partial .count + 1) (per-word (edm (s .registers .cr))))
     (no-word (with-partial (record { count = s .partial .count + 1; bits = packed-bits s x }) s))
-    (record { state = with-partial no-partial s; word = some (packed-bits s x) })
+    (record { state = with-partial no-partial s; word = some (packed-bits s x); due = false })
 
 -- Rules 6 to 8 at a pixel of an open frame, taken or not: its place, whether it is captured, and the packing.
 unfoldable pub pixel : Capture → Bool → Scan → ℕ → Captured
@@ -158,13 +172,17 @@ pixel-in (Open taken f) s now x = cond (any-blanks now) (no-word s) (pixel s tak
 unfoldable pub pixel-edge : Capture → Syncs → ℕ → Captured
 pixel-edge s now x = pixel-in (s .frame) s now x
 
--- Whether each sync blanks is remembered last: until then `syncs` is that of the last working edge.
-unfoldable pub remember-syncs : Syncs → Captured → Captured
-remember-syncs now c = record { state = with-syncs now (c .state); word = c .word }
+-- The word of a frame's end, or else of a pixel. Where VSYNC blanks the edge carries no pixel.
+unfoldable pub either-word : Option ℕ → Option ℕ → Option ℕ
+either-word none w = w
+either-word (some v) w = some v
 
--- Rules 3 to 8 at a working edge.
+-- Rules 3 to 8 at a working edge. Whether each sync blanks is remembered last: until then `syncs` is that of the last working edge.
 unfoldable pub at-edge : Capture → Syncs → ℕ → Captured
-at-edge s now x = remember-syncs now (pixel-edge (frame-start (frame-end (sync-flags s now) now) now) now x)
+at-edge s now x =
+    let e = frame-end (sync-flags s now) now in
+    let p = pixel-edge (frame-start (e .state) now) now x in
+    record { state = with-syncs now (p .state); word = either-word (e .word) (p .word); due = e .due }
 
 -- Rules 2 to 8: without a working edge, or with ENABLE 0, the sample is over. No rule from 3 on reads the levels that rule 2 remembers.
 unfoldable pub capture-sample : Capture → ℕ → Captured
@@ -172,3 +190,7 @@ capture-sample s w =
     cond (working-edge s w && enabled s)
     (at-edge (remember-pins w s) (blanking s w) (pixel-data w))
     (no-word (remember-pins w s))
+
+-- The state after a sample that loses no word.
+unfoldable pub next-capture : Capture → ℕ → Capture
+next-capture s w = flagged (capture-sample s w)

@@ -89,7 +89,7 @@ abbrev pub reserved-at : Found → ℕ → Bool
 reserved-at Nothing v = false
 reserved-at (At r) v = reserved-set r v
 
--- Refusal 5: a CR value with JPEG 1, ESS 1, FCRC 3, or CAPTURE 1 and ENABLE 0.
+-- Refusal 5: a CR value with JPEG 1 otherwise than with EDM 0 and CROP 0 (W4), ESS 1, FCRC 3, or CAPTURE 1 and ENABLE 0.
 abbrev pub unsupported-at : Found → ℕ → Bool
 unsupported-at Nothing v = false
 unsupported-at (At r) v = is-control r && unsupported v

@@ -14,7 +14,7 @@ use Rattle.output.specs.Output.{OutputState, count-sample, grant, offer, discar
 use Rattle.rules.specs.declared.Capture.{Capture}
 use Rattle.rules.specs.declared.Device.{Device}
 use Rattle.rules.specs.State.{device, capture-of, output-of, raise, clear-capture, close-frame}
-use Rattle.rules.specs.Capture.{enabled, capture-sample}
+use Rattle.rules.specs.Capture.{Captured, enabled, flagged, capture-sample}
 use Rattle.rules.specs.WellFormed.{malformed}
 
 -- Whether a sample completed no word, completed one, with its value, or lost one.
@@ -32,22 +32,22 @@ pub record Completed : Type 0 where
 unfoldable pub lose-frame : Capture → Capture
 lose-frame s = close-frame (cond (snapshot (s .registers .cr)) (clear-capture (raise 1 s)) (raise 1 s))
 
--- Rule 9, by what became of the full word: it is held; or it is lost, and with it the held words and the frame.
-unfoldable pub after-word : Fate → ℕ → Capture → OutputState → Completed
-after-word Held v s x = record { device = device s x; packed = completed v }
-after-word Lost v s x = record { device = device (lose-frame s) (discard 1 x); packed = lost }
+-- Rule 9, by what became of the word: it is held, and then FRAME rises where it is due (W4); or it is lost, and with it the held words and the frame.
+unfoldable pub after-word : Fate → ℕ → Captured → OutputState → Completed
+after-word Held v c x = record { device = device (flagged c) x; packed = completed v }
+after-word Lost v c x = record { device = device (lose-frame (c .state)) (discard 1 x); packed = lost }
 
 -- Rule 9, W9: with fewer held than the depth a full word is held, with as many there is an overrun.
-unfoldable pub full-word : ℕ → Capture → OutputState → Completed
-full-word v s x = after-word (offer v x .fate) v s (offer v x .state)
+unfoldable pub full-word : ℕ → Captured → OutputState → Completed
+full-word v c x = after-word (offer v x .fate) v c (offer v x .state)
 
-unfoldable pub complete : Option ℕ → Capture → OutputState → Completed
-complete none s x = record { device = device s x; packed = nothing }
-complete (some v) s x = full-word v s x
+unfoldable pub complete : Option ℕ → Captured → OutputState → Completed
+complete none c x = record { device = device (flagged c) x; packed = nothing }
+complete (some v) c x = full-word v c x
 
 -- Rules 2 to 9 after the grant.
 unfoldable pub after-grant : Capture → OutputState → ℕ → Completed
-after-grant s x w = complete (capture-sample s w .word) (capture-sample s w .state) x
+after-grant s x w = complete (capture-sample s w .word) (capture-sample s w) x
 
 -- What a sample makes of device and frame buffer, with its two answers: the byte of the frame buffer at which a word landed, if one
 -- did, and whether no word was completed, one was, or one was lost.

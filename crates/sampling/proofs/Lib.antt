@@ -1,4 +1,5 @@
 pub mod Ready
 pub mod Noted
 pub mod Going
+pub mod Stretches
 pub mod AcceptedRuns

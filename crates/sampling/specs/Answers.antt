@@ -1,11 +1,15 @@
 -- The paper's values of each case of rule 9's answer (document 01, "One sample"), and what a sample or some samples leave by value and in lent places, together.
+use mathlib.Core.Bool.{Bool}
 use mathlib.Core.List.{List}
+use mathlib.Core.Option.{some}
 use Prim.Native.Nat.{ℕ}
 use Rattle.refusals.specs.Refusals.{refused, answered}
 use Rattle.refusals.specs.Table.{number}
 use Rattle.output.specs.Answers.{landing}
 use Rattle.rules.specs.declared.Core.{Core}
 use Rattle.rules.specs.declared.Device.{Device}
+use Rattle.rules.specs.declared.Capture.{Capture}
+use Rattle.rules.specs.Capture.{Captured}
 use Rattle.rules.specs.Run as run-rules
 use Rattle.sampling.specs.declared.Packing.{Packing}
 use Rattle.sampling.specs.declared.Packing.the-variants as packing-cases
@@ -19,6 +23,10 @@ abbrev pub packing : Packing → run-rules.Packed
 packing packing-cases.Nothing = run-rules.nothing
 packing (packing-cases.Completed v) = run-rules.completed v
 packing packing-cases.Lost = run-rules.lost
+
+-- A state with a full or a padded word, and whether FRAME is due.
+abbrev pub with-word : ℕ → Bool → Capture → Captured
+with-word v due s = record { state = s; word = some v; due = due }
 
 -- The device of a core and its slots; with what became of the word.
 abbrev pub device : Core → List ℕ → Device

@@ -1,2 +1,4 @@
 pub mod Notes
 pub mod Answers
+pub mod Levels
+pub mod Unpadded

@@ -1,4 +1,5 @@
 // Rule 9: a full word is held, or there is an overrun.
+ghost use mathlib.Core.Bool.{true, false};
 ghost use mathlib.Core.Path.{_≡_};
 ghost use Prim.Native.Nat.{_+_, _≤_, _<_, _^_};
 ghost use Rattle.output.specs.Answers.{left};
@@ -13,6 +14,7 @@ use capture::Word;
 use capture::apart;
 use capture::frame::clear_capture;
 use capture::frame::close_frame;
+use capture::syncs::raise_frame;
 use capture::syncs::raise_ovr;
 use output::Fate;
 use output::Output;
@@ -38,7 +40,7 @@ fn lose_frame(s: Capture) -> Capture
 fn full_word(v: u32, s: Capture, o: Output, slots: &mut [u32; SLOTS]) -> Completed
     requires { ⌜ Laid (left o (now slots)) ⌝ }
     requires { ⌜ (s .registers .ris ≤ 31) × (o .counts .completed + 1 < 2 ^ 32) × (o .counts .discarded + o .held + 1 < 2 ^ 32) ⌝ }
-    ensures { λ r. ⌜ sample-answers.completed r (now (slots .exit)) ≡ run-rules.full-word v s (left o (now (slots .entry))) ⌝ }
+    ensures { λ r. ⌜ sample-answers.completed r (now (slots .exit)) ≡ run-rules.full-word v (sample-answers.with-word v false s) (left o (now (slots .entry))) ⌝ }
 {
     let s = apart(s);
     let offered = offer(v, o, slots);
@@ -66,7 +68,7 @@ fn full_word(v: u32, s: Capture, o: Output, slots: &mut [u32; SLOTS]) -> Complet
 pub fn complete(c: Captured, o: Output, slots: &mut [u32; SLOTS]) -> Completed
     requires { ⌜ Laid (left o (now slots)) ⌝ }
     requires { ⌜ (c .state .registers .ris ≤ 31) × (o .counts .completed + 1 < 2 ^ 32) × (o .counts .discarded + o .held + 1 < 2 ^ 32) ⌝ }
-    ensures { λ r. ⌜ sample-answers.completed r (now (slots .exit)) ≡ run-rules.complete (capture-answers.word (c .word)) (c .state) (left o (now (slots .entry))) ⌝ }
+    ensures { λ r. ⌜ sample-answers.completed r (now (slots .exit)) ≡ run-rules.complete (capture-answers.word (c .word)) (capture-answers.captured c) (left o (now (slots .entry))) ⌝ }
 {
     let s = c.state;
     let word = c.word;
@@ -82,6 +84,33 @@ pub fn complete(c: Captured, o: Output, slots: &mut [u32; SLOTS]) -> Completed
         }
         Word::Full(v) => {
             return full_word(v, s, o, slots);
+        }
+    }
+}
+
+// Rule 9, W4: of a padded word, and then FRAME where the word is held.
+pub fn padded_word(v: u32, s: Capture, o: Output, slots: &mut [u32; SLOTS]) -> Completed
+    requires { ⌜ Laid (left o (now slots)) ⌝ }
+    requires { ⌜ (s .registers .ris ≤ 31) × (o .counts .completed + 1 < 2 ^ 32) × (o .counts .discarded + o .held + 1 < 2 ^ 32) ⌝ }
+    ensures { λ r. ⌜ sample-answers.completed r (now (slots .exit)) ≡ run-rules.full-word v (sample-answers.with-word v true s) (left o (now (slots .entry))) ⌝ }
+{
+    let c = full_word(v, s, o, slots);
+    let core = c.core;
+    let packing = c.packing;
+    match packing {
+        Packing::Completed(_) => {
+            let capture = raise_frame(s);
+            let output = core.output;
+            return Completed {
+                packing,
+                core: Core { capture, output },
+            };
+        }
+        Packing::Nothing => {
+            return c;
+        }
+        Packing::Lost => {
+            return c;
         }
     }
 }

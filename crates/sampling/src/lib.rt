@@ -2,6 +2,7 @@
 // value (docs/SPEED.md). The functions are for the crates `device` and `files`, which call them on well-formed devices; each states its result as an equation with its
 // definition.
 ghost use mathlib.Core.Bool.{false};
+ghost use mathlib.Core.Option.{none};
 ghost use mathlib.Core.Path.{_≡_};
 ghost use Prim.Native.Nat.{_+_, _<_, _^_};
 ghost use lib.ListN.{length};
@@ -13,14 +14,18 @@ ghost use Rattle.rules.specs.Capture.{enabled};
 ghost use Rattle.rules.specs.Run as run-rules;
 ghost use Rattle.rules.specs.WellFormed.{malformed};
 ghost use Rattle.rules.proofs.WellFormed.{WellFormed};
+ghost use Rattle.laws.specs.Padding as padding;
+ghost use Rattle.sampling.specs.Unpadded as unpadded;
 ghost use Rattle.sampling.specs.Answers as sample-answers;
 ghost use Rattle.sampling.specs.Notes as note-rules;
 
 mod full_word;
+mod jpeg;
 mod notes;
 mod single;
 
 use crate::full_word::complete;
+use crate::jpeg::jpeg_steps;
 use crate::notes::note_landing;
 use crate::notes::note_packing;
 pub use crate::single::refusal_of;
@@ -71,7 +76,7 @@ fn granted(s: Capture, o: Output, slots: &mut [u32; SLOTS], buffer: &mut [u8], w
     no_landing(o)
 }
 
-// The nine rules in order, with the answers of rules 1 and 9 noted.
+// The nine rules in order for a sample that pads no word, with the answers of rules 1 and 9 noted.
 fn step(
     d: Core,
     slots: &mut [u32; SLOTS],
@@ -83,6 +88,7 @@ fn step(
     requires { ⌜ WellFormed (sample-answers.device d (now slots)) ⌝ }
     requires { ⌜ Laid (output-answers.left (d .output) (now slots)) ⌝ }
     requires { ⌜ d .output .counts .samples + 1 < 2 ^ 32 ⌝ }
+    requires { ⌜ padding.padded-at (d .capture) w ≡ none ⌝ }
     ensures { λ r. ⌜ sample-answers.noted r (now (slots .exit)) (now (buffer .exit)) (now (landings .exit)) (now (words .exit)) ≡ note-rules.noted-step (sample-answers.noted d (now (slots .entry)) (now (buffer .entry)) (now (landings .entry)) (now (words .entry))) w ⌝ }
 {
     let s = capture::apart(d.capture);
@@ -97,7 +103,32 @@ fn step(
     c.core
 }
 
-// The samples in order. Its loop is the one place where `step` is called, so that the compiler makes the rules part of it.
+// Samples of which none pads a word, in order. Its loop is the one place where `step` is called, so that the compiler makes the rules part of it.
+fn unpadded_steps(
+    d: Core,
+    slots: &mut [u32; SLOTS],
+    buffer: &mut [u8],
+    landings: &mut [usize; 2],
+    words: &mut [u32; 2],
+    samples: &[u32],
+) -> Core
+    requires { ⌜ WellFormed (sample-answers.device d (now slots)) ⌝ }
+    requires { ⌜ Laid (output-answers.left (d .output) (now slots)) ⌝ }
+    requires { ⌜ d .output .counts .samples + length (now samples) < 2 ^ 32 ⌝ }
+    requires { ⌜ unpadded.Unpadded (sample-answers.device d (now slots)) (now buffer) (now samples) ⌝ }
+    ensures { λ r. ⌜ sample-answers.noted r (now (slots .exit)) (now (buffer .exit)) (now (landings .exit)) (now (words .exit)) ≡ note-rules.noted-steps (sample-answers.noted d (now (slots .entry)) (now (buffer .entry)) (now (landings .entry)) (now (words .entry))) (now (samples .entry)) ⌝ }
+{
+    let mut e = d;
+    let mut i = 0;
+    while i < samples.len() {
+        let w = samples[i];
+        e = step(e, slots, buffer, landings, words, w);
+        i += 1;
+    }
+    e
+}
+
+// The samples in order.
 fn steps(
     d: Core,
     slots: &mut [u32; SLOTS],
@@ -111,14 +142,10 @@ fn steps(
     requires { ⌜ d .output .counts .samples + length (now samples) < 2 ^ 32 ⌝ }
     ensures { λ r. ⌜ sample-answers.noted r (now (slots .exit)) (now (buffer .exit)) (now (landings .exit)) (now (words .exit)) ≡ note-rules.noted-steps (sample-answers.noted d (now (slots .entry)) (now (buffer .entry)) (now (landings .entry)) (now (words .entry))) (now (samples .entry)) ⌝ }
 {
-    let mut e = d;
-    let mut i = 0;
-    while i < samples.len() {
-        let w = samples[i];
-        e = step(e, slots, buffer, landings, words, w);
-        i += 1;
+    if control::jpeg(d.capture.registers.cr) {
+        return jpeg_steps(d, slots, buffer, landings, words, samples);
     }
-    e
+    unpadded_steps(d, slots, buffer, landings, words, samples)
 }
 
 // The samples in order over a device by value: its slots are taken out for the loop, and put back. What is noted is not read.

@@ -1,8 +1,10 @@
 -- `capture::blanked_edge` meets its contract. Assumes nothing.
 use borrow.Author.Needs.{needs}
 use native.Mathlib.Omega.{arith}
-use Rattle.laws.proofs.Kept.{sync-flags-kept, frame-end-kept}
-use Rattle.rules.specs.Capture.{frame-end, sync-flags, no-word, remember-syncs}
+use Rattle.laws.proofs.Kept.{sync-flags-kept}
+use Rattle.laws.proofs.Before.{end-before-kept}
+use Rattle.laws.specs.Before.{frame-end-before-W4}
+use Rattle.rules.specs.Capture.{sync-flags, no-word}
 use Rattle.rules.specs.State.{with-syncs}
 use Rattle.capture.proofs.Laws.{short-period}
 use Rattle.capture.proofs.blanked_edge.Statement.{statement}
@@ -16,10 +18,10 @@ frame-start-requires c κs =
     let a = c .before .before .args in
     let flagged = sync-flags (a .s) (a .now) in
     rw (c .frame-end .ensures, c .before .sync-flags .ensures)
-    (omega (arith, frame-end-kept flagged (a .now) .ok _ (sync-flags-kept (a .s) (a .now) .ok _ (c .before .before .pre)) .rate, short-period (frame-end flagged (a .now) .registers .cr)))
+    (omega (arith, end-before-kept flagged (a .now) .ok _ (sync-flags-kept (a .s) (a .now) .ok _ (c .before .before .pre)) .rate, short-period (frame-end-before-W4 flagged (a .now) .registers .cr)))
 
 returns : tie.Need-returns
-unfolding remember-syncs no-word with-syncs
+unfolding no-word with-syncs
 returns c = rw (← c .before .before .before .before .sync-flags .ensures, ← c .before .before .before .frame-end .ensures, ← c .before .before .frame-start .ensures)
 
 pub blanked-edge-spec : {M : Type 1} → statement M

@@ -3,7 +3,7 @@ use mathlib.Core.Path.{ap}
 use native.Mathlib.Omega.{arith}
 use Rattle.laws.proofs.Kept.{frame-start-kept}
 use Rattle.laws.proofs.Packing.{datum-joins}
-use Rattle.rules.specs.Capture.{Captured, frame-start, remember-syncs}
+use Rattle.rules.specs.Capture.{Captured, frame-start}
 use Rattle.rules.specs.State.{not-blanking, with-syncs}
 use Rattle.capture.proofs.Laws.{short-period, plain-edge}
 use Rattle.capture.proofs.plain_edge.Statement.{statement}
@@ -19,7 +19,7 @@ pixel-in-requires c κs =
     rw (c .frame-start .ensures) ((omega (arith, ok .lines), omega (arith, ok .pixels)), datum-joins s (c .before .args .datum) ok)
 
 returns : tie.Need-returns
-unfolding remember-syncs with-syncs
+unfolding with-syncs
 returns c =
     let e = c .before .before .before .pixel-in .ensures in
     rw (plain-edge, ← c .before .before .before .before .frame-start .ensures, ← ap (λ (x : Captured). x .state) e, ← ap (λ (x : Captured). x .word) e)

@@ -1,8 +1,9 @@
 -- `capture::sample` meets its contract. Assumes nothing.
 use borrow.Author.Needs.{needs}
 use mathlib.Core.Path.{sym, _∙_}
-use Rattle.rules.specs.Capture.{no-word, capture-sample}
-use Rattle.capture.proofs.Laws.{pins-ok, same-blanking, blanked-edge, neither}
+use Rattle.rules.specs.Capture.{no-word}
+use Rattle.capture.proofs.Laws.{pins-ok, same-blanking, edge-blanked, neither}
+use Rattle.laws.specs.Before.{capture-sample-by}
 use Rattle.capture.proofs.sample.Statement.{statement}
 use Rattle.capture.proofs.sample.Tie as tie
 
@@ -13,15 +14,15 @@ plain-edge-requires : tie.Need-plain-edge-requires
 plain-edge-requires c κs = rw (c .before .before .before .before .before .before .remember-pins .ensures, c .before .before .before .before .before .before .before .apart .ensures) (pins-ok _ (c .before .before .before .before .before .before .before .before .pre))
 
 returns : tie.Need-returns
-unfolding capture-sample
+unfolding capture-sample-by
 returns c =
     let s = c .before .before .before .before .before .before .before .apart .result in
     let now = c .before .before .before .blanking .ensures ∙ same-blanking s (c .before .before .before .before .before .before .before .before .args .w) (c .before .before .before .before .before .before .remember-pins .ensures) in
-    rw (← c .before .before .before .before .before .before .before .apart .ensures, sym (c .before .before .before .before .before .goes-on .ensures) ∙ c .before .before .before .before .if1 .taken, ← now, ← c .before .before .before .before .before .before .remember-pins .ensures, blanked-edge _ (c .before .before .before .blanking .result) _ (sym (c .before .before .any-blanks .ensures) ∙ c .before .if2 .taken))
+    rw (← c .before .before .before .before .before .before .before .apart .ensures, sym (c .before .before .before .before .before .goes-on .ensures) ∙ c .before .before .before .before .if1 .taken, ← now, ← c .before .before .before .before .before .before .remember-pins .ensures, edge-blanked _ (c .before .before .before .blanking .result) _ (sym (c .before .before .any-blanks .ensures) ∙ c .before .if2 .taken))
     (c .blanked-edge .ensures)
 
 returns-2 : tie.Need-returns-2
-unfolding capture-sample
+unfolding capture-sample-by
 returns-2 c =
     let s = c .before .before .before .before .before .before .before .before .apart .result in
     let now = c .before .before .before .before .blanking .ensures ∙ same-blanking s (c .before .before .before .before .before .before .before .before .before .args .w) (c .before .before .before .before .before .before .before .remember-pins .ensures) in
@@ -29,7 +30,7 @@ returns-2 c =
     (c .plain-edge .ensures)
 
 returns-3 : tie.Need-returns-3
-unfolding capture-sample no-word
+unfolding capture-sample-by no-word
 returns-3 c = rw (← c .before .before .before .apart .ensures, sym (c .before .goes-on .ensures) ∙ c .if1 .left, ← c .before .before .remember-pins .ensures)
 
 pub sample-spec : {M : Type 1} → statement M

@@ -2,7 +2,7 @@
 use borrow.Author.Needs.{needs}
 use mathlib.Core.Path.{ap}
 use native.Mathlib.Omega.{arith}
-use Rattle.laws.proofs.Moved.{sample-ok}
+use Rattle.laws.proofs.Before.{sample-before-ok}
 use Rattle.output.specs.Output.{with-counts, count-sample}
 use Rattle.rules.specs.Capture.{Captured}
 use Rattle.rules.specs.Run.{counted}
@@ -16,10 +16,10 @@ unfolding counted count-sample with-counts
 granted-requires c κs =
     let a = c .before .before .before .before .before .args in
     let pre = c .before .before .before .before .before .pre in
-    rw (c .before .before .count-sample .ensures) (asks-grant (device (a .d) (a .slots .now)) (a .buffer .now) (a .w) (pre .0) (pre .1 .0) (pre .1 .1))
+    rw (c .before .before .count-sample .ensures) (asks-grant (device (a .d) (a .slots .now)) (a .buffer .now) (a .w) (pre .0) (pre .1 .0) (pre .1 .1 .0))
 
 sample-requires : tie.Need-sample-requires
-sample-requires c κs = rw (c .before .before .before .before .before .before .before .before .before .apart .ensures) (more-lines (omega (arith, c .before .before .before .before .before .before .before .before .before .before .before .pre .1 .1)) (c .before .before .before .before .before .before .before .before .before .before .before .pre .0 .capture))
+sample-requires c κs = rw (c .before .before .before .before .before .before .before .before .before .apart .ensures) (more-lines (omega (arith, c .before .before .before .before .before .before .before .before .before .before .before .pre .1 .1 .0)) (c .before .before .before .before .before .before .before .before .before .before .before .pre .0 .capture))
 
 complete-requires : tie.Need-complete-requires
 unfolding counted
@@ -27,9 +27,9 @@ complete-requires c κs =
     let a = c .before .before .before .before .before .before .before .before .before .before .before .before .before .args in
     let pre = c .before .before .before .before .before .before .before .before .before .before .before .before .before .pre in
     let left = rw (c .before .before .before .before .before .before .before .before .before .before .count-sample .ensures, c .before .before .before .before .before .before .before .before .before .before .before .apart .ensures) at (c .before .before .before .before .before .before .before .granted .ensures) in
-    let (laid, counts) = asks-word (device (a .d) (a .slots .now)) (a .buffer .now) (a .w) (pre .0) (pre .1 .0) (pre .1 .1) left in
+    let (laid, counts) = asks-word (device (a .d) (a .slots .now)) (a .buffer .now) (a .w) (pre .0) (pre .1 .0) (pre .1 .1 .0) left in
     let state = rw (c .before .before .before .before .before .before .before .before .before .before .before .apart .ensures) at (ap (λ (x : Captured). x .state) (c .before .sample .ensures)) in
-    (laid, (rw state (sample-ok (a .w) (pre .0 .capture) .ris), counts .0, counts .1))
+    (laid, (rw state (sample-before-ok (a .w) (pre .0 .capture) .ris), counts .0, counts .1))
 
 returns : tie.Need-returns
 unfolding counted
@@ -38,7 +38,7 @@ returns c =
     let g = rw (c .before .before .before .before .before .before .before .before .before .before .before .before .before .before .count-sample .ensures, c .before .before .before .before .before .before .before .before .before .before .before .before .before .before .before .apart .ensures) at (c .before .before .before .before .before .before .before .before .before .before .before .granted .ensures) in
     let s = rw (c .before .before .before .before .before .before .before .before .before .before .before .before .before .before .before .apart .ensures) at (c .before .before .before .before .before .sample .ensures) in
     rw (c .before .before .before .before .before .before .before .note-landing .ensures, c .before .note-packing .ensures)
-    (stepped (device (a .d) (a .slots .now)) (a .buffer .now) (a .landings .now) (a .words .now) (a .w) g s (c .before .before .before .complete .ensures))
+    (stepped (device (a .d) (a .slots .now)) (a .buffer .now) (a .landings .now) (a .words .now) (a .w) (c .before .before .before .before .before .before .before .before .before .before .before .before .before .before .before .before .before .pre .1 .1 .1) g s (c .before .before .before .complete .ensures))
 
 pub step-spec : {M : Type 1} → statement M
 step-spec = tie.close (tie.spec (λ c κs. search needs) (λ c κs. search needs) granted-requires (λ c κs. search needs) sample-requires complete-requires (λ c κs. search needs) (λ c. search needs) returns)

@@ -1,60 +1,25 @@
--- `sampling::steps` meets its contract: the loop keeps `Going`, and each turn is one step of the rules. Assumes nothing.
-use Prim.Native.Nat.{_-_}
+-- `sampling::steps` meets its contract. Assumes nothing.
+use mathlib.Core.Path.{sym, _∙_}
 use borrow.Author.Needs.{needs}
-use lib.ListN.{length}
-use mathlib.Core.Path.{sym}
-use native.Mathlib.Omega.{arith}
-use Rattle.sampling.specs.Answers.{noted}
-use Rattle.sampling.proofs.Going.{Going, starting, going-on, going-end}
+use Rattle.sampling.specs.Answers.{device}
+use Rattle.sampling.proofs.Stretches.{without-jpeg}
 use Rattle.sampling.proofs.steps.Statement.{statement}
 use Rattle.sampling.proofs.steps.Tie as tie
 
-abbrev Inv-loop : tie.InvT-loop
-Inv-loop slots₀ buffer₀ landings₀ words₀ samples e₀ i₀ slots buffer landings words e i =
-    Going samples (noted e₀ slots₀ buffer₀ landings₀ words₀) (noted e slots buffer landings words) i
-
-abbrev μ-loop : tie.MeasureT-loop
-μ-loop slots₀ buffer₀ landings₀ words₀ samples e₀ i₀ slots buffer landings words e i = length samples - i
-
-loop-holds : tie.Need-loop-holds Inv-loop μ-loop
-loop-holds c = let pre = c .before .before .pre in starting _ _ (pre .0) (pre .1 .0)
-
-shared-slice-read-w : tie.Need-shared-slice-read-w Inv-loop μ-loop
-shared-slice-read-w c = omega (arith, c .before .loop-test .taken)
-
-step-requires : tie.Need-step-requires Inv-loop μ-loop
-step-requires c κs =
-    let g = c .before .before .before .before .before .before .loop .inv in
-    (g .well, (g .laid, omega (arith, g .count, c .before .before .before .before .before .loop-test .taken, c .before .before .before .before .before .before .before .before .before .pre .1 .1)))
-
-add-i : tie.Need-add-i Inv-loop μ-loop
-add-i c = omega (arith, c .before .before .before .before .before .before .before .before .loop-test .taken, c .before .before .before .before .before .before .before .before .before .before .before .before .good)
-
-loop-less : tie.Need-loop-less Inv-loop μ-loop
-loop-less c = omega (arith, c .before .before .before .before .before .before .before .before .loop-test .taken)
-
-loop-again : tie.Need-loop-again Inv-loop μ-loop
-loop-again c =
-    going-on (c .before .before .before .before .before .before .before .before .before .loop .inv) _ (c .before .before .before .before .before .before .before .before .loop-test .taken) (c .before .before .step .ensures) (c .before .before .step .kept .1 .1 .0)
-
-same-length : tie.Need-same-length Inv-loop μ-loop
-same-length c = c .before .loop .inv .long
-
-returns : tie.Need-returns Inv-loop μ-loop
-returns c = sym (going-end (c .before .loop .inv) (c .loop-test .left))
+unpadded-steps-requires : tie.Need-unpadded-steps-requires
+unpadded-steps-requires c κs =
+    let a = c .before .before .before .before .before .before .before .before .args in
+    let pre = c .before .before .before .before .before .before .before .before .pre in
+    (pre .0, (pre .1 .0, (pre .1 .1, without-jpeg (device (a .d) (a .slots .now)) (a .buffer .now) (a .samples .now) (sym (c .before .before .before .before .before .jpeg .ensures) ∙ c .before .before .before .before .if1 .left))))
 
 pub steps-spec : {M : Type 1} → statement M
 steps-spec =
     tie.close
     (tie.spec
-    Inv-loop
-    μ-loop
-    loop-holds
+    (λ c κs. search needs)
+    (λ c κs. search needs)
     (λ c. search needs)
-    shared-slice-read-w
-    step-requires
-    add-i
-    loop-less
-    loop-again
-    same-length
-    returns)
+    (λ c. search needs)
+    unpadded-steps-requires
+    (λ c. search needs)
+    (λ c. search needs))

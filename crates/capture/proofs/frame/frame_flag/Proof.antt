@@ -1,11 +1,11 @@
 -- `capture::frame::frame_flag` meets its contract. Assumes nothing.
 use borrow.Author.Needs.{needs}
-use Rattle.rules.specs.Capture.{frame-flag}
+use Rattle.rules.specs.Capture.{frame-due}
 use Rattle.capture.proofs.frame.frame_flag.Statement.{statement}
 use Rattle.capture.proofs.frame.frame_flag.Tie as tie
 
 returns : tie.Need-returns
-unfolding frame-flag
+unfolding frame-due
 returns c =
     rw (
       c .before .before .before .before .before .frame .given .1,
@@ -16,15 +16,15 @@ returns c =
     )
 
 returns-2 : tie.Need-returns-2
-unfolding frame-flag
+unfolding frame-due
 returns-2 c = rw (c .before .before .before .before .frame .given .1, c .before .before .if1 .taken, ← c .before .frame-rises .ensures, c .if2 .left)
 
 returns-3 : tie.Need-returns-3
-unfolding frame-flag
+unfolding frame-due
 returns-3 c = rw (c .enum-told .given .1)
 
 returns-4 : tie.Need-returns-4
-unfolding frame-flag
+unfolding frame-due
 returns-4 c = rw (c .before .before .frame .given .1, c .if1 .left)
 
 pub frame-flag-spec : {M : Type 1} → statement M

@@ -7,17 +7,17 @@ use Rattle.registers.proofs.control.unsupported.Tie as tie
 
 returns : tie.Need-returns
 unfolding unsupported
-returns c = rw (← c .before .jpeg .ensures, c .if1 .taken)
+returns c = rw (← c .before .unsupported-jpeg .ensures, c .if1 .taken)
 
 returns-2 : tie.Need-returns-2
 unfolding unsupported
-returns-2 c = rw (← c .before .before .before .jpeg .ensures, ← c .before .embedded .ensures, c .before .before .if1 .left, c .if2 .taken)
+returns-2 c = rw (← c .before .before .before .unsupported-jpeg .ensures, ← c .before .embedded .ensures, c .before .before .if1 .left, c .if2 .taken)
 
 returns-3 : tie.Need-returns-3
 unfolding unsupported
 returns-3 c =
     rw (
-      ← c .before .before .before .before .before .jpeg .ensures,
+      ← c .before .before .before .before .before .unsupported-jpeg .ensures,
       ← c .before .before .before .embedded .ensures,
       ← c .before .fcrc .ensures,
       c .before .before .before .before .if1 .left,
@@ -29,7 +29,7 @@ returns-4 : tie.Need-returns-4
 unfolding unsupported
 returns-4 c =
     rw (
-      ← c .before .before .before .before .before .before .before .before .jpeg .ensures,
+      ← c .before .before .before .before .before .before .before .before .unsupported-jpeg .ensures,
       ← c .before .before .before .before .before .before .embedded .ensures,
       ← c .before .before .before .before .fcrc .ensures,
       ← c .before .before .capture .ensures,
@@ -44,7 +44,7 @@ returns-5 : tie.Need-returns-5
 unfolding unsupported
 returns-5 c =
     rw (
-      ← c .before .before .before .before .before .before .before .jpeg .ensures,
+      ← c .before .before .before .before .before .before .before .unsupported-jpeg .ensures,
       ← c .before .before .before .before .before .embedded .ensures,
       ← c .before .before .before .fcrc .ensures,
       ← c .before .capture .ensures,

@@ -1,11 +1,12 @@
 -- `sampling::full_word::complete` meets its contract. Assumes nothing.
 use borrow.Author.Needs.{needs}
+use Rattle.rules.specs.Capture.{flagged}
 use Rattle.rules.specs.Run.{complete}
 use Rattle.sampling.proofs.full_word.complete.Statement.{statement}
 use Rattle.sampling.proofs.full_word.complete.Tie as tie
 
 returns : tie.Need-returns
-unfolding complete
+unfolding complete flagged
 returns c = rw (c .enum-told .given .1)
 
 returns-2 : tie.Need-returns-2

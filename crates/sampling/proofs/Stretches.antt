@@ -1,0 +1,148 @@
+-- Stretches of samples that pad no word (W4): every one without JPEG, and those of `stretch`. The idea: where VSYNC does not blank no frame ends, and where it blanks and no datum waits
+-- none comes to wait. Assumes nothing.
+use mathlib.Core.Bool.{Bool, true, false, cond, _&&_, Bool·beq, false≢true}
+use mathlib.Core.List.{List, [], _∷_, _++_}
+use mathlib.Core.Option.{none}
+use mathlib.Core.Path.{_≡_, refl, sym, ap, _∙_}
+use Prim.Native.Nat.{ℕ, zero, suc, _+_, _-_, _≤_, _<_}
+use native.Mathlib.Numerals.{add-one}
+use native.Mathlib.Omega.{arith}
+use lib.Dec.{ltb}
+use lib.ListN.{length, take, drop, getD, length-drop}
+use lib.Seq.{drop-cons}
+use borrow.Author.Tests.{ltb-false}
+use Rattle.bits.proofs.Booleans.{by-cond, and-unit}
+use Rattle.registers.specs.Control.{jpeg, vspol}
+use Rattle.samples.specs.Samples.{vsync-pin}
+use Rattle.rules.specs.declared.Device.{Device}
+use Rattle.rules.specs.State.{capture-of}
+use Rattle.rules.specs.Run.{step}
+use Rattle.laws.specs.Padding.{padded-at}
+use Rattle.laws.proofs.RegisterValues.{half-setup, same-jpeg, same-vspol}
+use Rattle.laws.proofs.KeepsSample.{step-half}
+use Rattle.laws.proofs.Unpadded.{none-without-jpeg, none-unless-vsync, none-without-data, step-without-data}
+use Rattle.sampling.specs.Levels.{level-run, stretch}
+use Rattle.sampling.specs.Notes.{Noted, noted-step}
+use Rattle.sampling.specs.Unpadded.{Unpadded}
+
+pub without-jpeg : (d : Device) (b ws : List ℕ) → jpeg (d .core .capture .registers .cr) ≡ false → Unpadded d b ws
+unfolding Unpadded
+without-jpeg d b [] e = tt
+without-jpeg d b (w ∷ ws) e =
+    (none-without-jpeg (capture-of d) w e, without-jpeg (step d b w .device) (step d b w .buffer) ws (same-jpeg _ _ (half-setup _ _ (step-half d b w)) ∙ e))
+
+-- The first of them, and the rest.
+pub first-unpadded : (d : Device) (b samples : List ℕ) (i : ℕ) → i < length samples → Unpadded d b (drop i samples) → padded-at (capture-of d) (getD samples i 0) ≡ none
+unfolding Unpadded
+first-unpadded d b samples i inside u = (rw (drop-cons samples i 0 inside) at u) .0
+
+pub rest-unpadded : (samples : List ℕ) (n n′ : Noted) (i : ℕ) → i < length samples → Unpadded (n .device) (n .buffer) (drop i samples) → n′ ≡ noted-step n (getD samples i 0)
+    → Unpadded (n′ .device) (n′ .buffer) (drop (i + 1) samples)
+unfolding Unpadded noted-step
+rest-unpadded samples n n′ i inside u e = rw (e, add-one) ((rw (drop-cons samples i 0 inside) at u) .1)
+
+-- Samples at which VSYNC has a level.
+AtLevel : Bool → List ℕ → Type 0
+AtLevel level [] = Unit {0}
+AtLevel level (w ∷ ws) = (vsync-pin w ≡ level) × AtLevel level ws
+
+same-bool : (a b : Bool) → Bool·beq a b ≡ true → a ≡ b
+same-bool true true e = refl
+same-bool true false e = absurd (false≢true e)
+same-bool false true e = absurd (false≢true e)
+same-bool false false e = refl
+
+beq-same : (a : Bool) → Bool·beq a a ≡ true
+beq-same true = refl
+beq-same false = refl
+
+run-level : (level : Bool) (ws : List ℕ) → AtLevel level (take (level-run level ws) ws)
+unfolding level-run AtLevel
+run-level level [] = tt
+run-level level (w ∷ ws) =
+    by-cond (λ (n : ℕ). AtLevel level (take n (w ∷ ws))) (Bool·beq (vsync-pin w) level) (suc (level-run level ws)) 0
+    (λ e. (same-bool (vsync-pin w) level e, run-level level ws))
+    (λ e. tt)
+
+pub run-within : (level : Bool) (ws : List ℕ) → level-run level ws ≤ length ws
+unfolding level-run
+run-within level [] = omega arith
+run-within level (w ∷ ws) =
+    by-cond (λ (n : ℕ). n ≤ suc (length ws)) (Bool·beq (vsync-pin w) level) (suc (level-run level ws)) 0 (λ e. omega (arith, run-within level ws)) (λ e. omega arith)
+
+-- One sample further, and where the level changes.
+pub run-on : (samples : List ℕ) (i : ℕ) (level : Bool) → i < length samples → Bool·beq (vsync-pin (getD samples i 0)) level ≡ true
+    → level-run level (drop i samples) ≡ suc (level-run level (drop (suc i) samples))
+unfolding level-run
+run-on samples i level inside e = rw (drop-cons samples i 0 inside, e)
+
+pub run-ends : (samples : List ℕ) (i : ℕ) (level : Bool) → i < length samples → Bool·beq (vsync-pin (getD samples i 0)) level ≡ false
+    → level-run level (drop i samples) ≡ 0
+unfolding level-run
+run-ends samples i level inside e = rw (drop-cons samples i 0 inside, e)
+
+pub run-of-none : (level : Bool) → level-run level [] ≡ 0
+unfolding level-run
+run-of-none level = refl
+
+-- Such samples pad no word where VSYNC does not blank at that level, or no datum waits.
+step-vspol : (d : Device) (b : List ℕ) (w : ℕ) → vspol (step d b w .device .core .capture .registers .cr) ≡ vspol (d .core .capture .registers .cr)
+step-vspol d b w = same-vspol _ _ (half-setup _ _ (step-half d b w))
+
+quiet : (level : Bool) (d : Device) (b ws : List ℕ) → AtLevel level ws → Bool·beq level (vspol (d .core .capture .registers .cr)) ≡ false → Unpadded d b ws
+unfolding AtLevel Unpadded
+quiet level d b [] all e = tt
+quiet level d b (w ∷ ws) all e =
+    (none-unless-vsync (capture-of d) w (rw (all .0) e), quiet level (step d b w .device) (step d b w .buffer) ws (all .1) (rw (step-vspol d b w) e))
+
+blanked : (level : Bool) (d : Device) (b ws : List ℕ) → AtLevel level ws → Bool·beq level (vspol (d .core .capture .registers .cr)) ≡ true
+    → d .core .capture .partial .count ≡ 0 → Unpadded d b ws
+unfolding AtLevel Unpadded
+blanked level d b [] all e none-waits = tt
+blanked level d b (w ∷ ws) all e none-waits = (
+  none-without-data (capture-of d) w none-waits,
+  blanked level (step d b w .device) (step d b w .buffer) ws (all .1) (rw (step-vspol d b w) e) (step-without-data d b w (rw (all .0) e) none-waits),
+)
+
+at-level : (level : Bool) (d : Device) (b ws : List ℕ) → AtLevel level ws
+    → (Bool·beq level (vspol (d .core .capture .registers .cr)) ≡ true → d .core .capture .partial .count ≡ 0) → Unpadded d b ws
+at-level level d b ws all waits = go (Bool·beq level (vspol (d .core .capture .registers .cr))) refl
+  where
+    go : (blanks : Bool) → Bool·beq level (vspol (d .core .capture .registers .cr)) ≡ blanks → Unpadded d b ws
+    go true e = blanked level d b ws all e (waits e)
+    go false e = quiet level d b ws all e
+
+-- The stretch from a sample that pads none.
+no-wait : (n : ℕ) (blanks : Bool) → ltb 0 n && blanks ≡ false → blanks ≡ true → n ≡ 0
+no-wait n true e is = let none : ltb 0 n ≡ false = sym (and-unit (ltb 0 n)) ∙ e in omega (arith, ltb-false 0 n none)
+no-wait n false e is = absurd (false≢true is)
+
+one-of : (samples : List ℕ) (i : ℕ) → i < length samples → take (i + 1 - i) (drop i samples) ≡ getD samples i 0 ∷ []
+one-of samples i inside = let one : i + 1 - i ≡ 1 = omega arith in rw (one, drop-cons samples i 0 inside)
+
+alone : (d : Device) (b : List ℕ) (w : ℕ) → padded-at (capture-of d) w ≡ none → Unpadded d b (w ∷ [])
+unfolding Unpadded
+alone d b w e = (e, tt)
+
+module _ (d : Device) (b samples : List ℕ) (i : ℕ) (inside : i < length samples) where
+  pub stretch-within : let k = stretch samples i (d .core .capture .partial .count) (vspol (d .core .capture .registers .cr)) in (i < k) × (k ≤ length samples)
+  unfolding stretch
+  stretch-within =
+      let level = vsync-pin (getD samples i 0) in
+      by-cond (λ (k : ℕ). (i < k) × (k ≤ length samples)) (ltb 0 (d .core .capture .partial .count) && Bool·beq level (vspol (d .core .capture .registers .cr)))
+      (i + 1) (i + level-run level (drop i samples))
+      (λ e. (omega arith, omega arith))
+      (λ e. (omega (arith, run-on samples i level inside (beq-same level)), omega (arith, rw length-drop at (run-within level (drop i samples)))))
+
+  pub stretch-unpadded : padded-at (capture-of d) (getD samples i 0) ≡ none
+      → Unpadded d b (take (stretch samples i (d .core .capture .partial .count) (vspol (d .core .capture .registers .cr)) - i) (drop i samples))
+  unfolding stretch
+  stretch-unpadded first =
+      let level = vsync-pin (getD samples i 0) in
+      let polarity = vspol (d .core .capture .registers .cr) in
+      let waiting = d .core .capture .partial .count in
+      by-cond (λ (k : ℕ). Unpadded d b (take (k - i) (drop i samples))) (ltb 0 waiting && Bool·beq level polarity) (i + 1) (i + level-run level (drop i samples))
+      (λ e. rw (one-of samples i inside) (alone d b (getD samples i 0) first))
+      (λ e.
+      let so-many : i + level-run level (drop i samples) - i ≡ level-run level (drop i samples) = omega arith in
+      rw so-many (at-level level d b (take (level-run level (drop i samples)) (drop i samples)) (run-level level (drop i samples)) (no-wait waiting (Bool·beq level polarity) e)))
