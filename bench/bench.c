@@ -2,9 +2,10 @@
  * usage: bench lib|one|file|little|model|none|nofile|trace WIDTH CROP OVERRUN ROWS [TIMES [DEPTH WAITING [SAMPLES]]]
  * one gives the samples one at a time; file runs the trace's file, little over as much memory as the frame printer has. none only makes the trace, nofile
  * makes it and writes its file: what lib, one and model, and what file and little, do besides running. trace prints the file.
- * WIDTH is 8, 10, 12 or 14, or jpeg for compressed pictures, with CROP and WAITING 0; CROP and OVERRUN are 0 or 1; ROWS is the number of rows of a picture,
- * of 660 pixel clocks, two samples a clock. DEPTH is the FIFO's, four where none is named; WAITING is how many words wait in it, at most the depth and only
- * with CROP 0; 0 stands for the reference trace. SAMPLES is how many there are, one picture after the other; those of one picture where none is named. */
+ * WIDTH is 8, 10, 12 or 14, jpeg for compressed pictures, with CROP and WAITING 0, or ess for pictures with codes in the data, with WAITING 0; CROP and
+ * OVERRUN are 0 or 1; ROWS is the number of rows of a picture, of 660 pixel clocks, two samples a clock. DEPTH is the FIFO's, four where none is named;
+ * WAITING is how many words wait in it, at most the depth and only with CROP 0; 0 stands for the reference trace. SAMPLES is how many there are, one
+ * picture after the other; those of one picture where none is named. */
 #include <stdio.h>
 #include <stdlib.h>
 #include <string.h>
@@ -64,6 +65,25 @@ static void make_compressed(size_t count, unsigned rows, int overrun)
     }
 }
 
+/* Pictures as ITU 656 sends them, with the same blanking at their ends and the same grants: a row is a code, 640 bytes, a code and 12 bytes of blanking. The
+ * middle rows begin with 0x80 and end with 0x9D, the others have 0xAB and 0xB6, which end a frame. No byte but those of codes is 00 or FF. */
+static void make_coded(size_t count, unsigned rows, int overrun)
+{
+    size_t n = 0;
+    uint32_t random = 12345;
+    for (unsigned row = 0; n < count; row = row + 1 == rows ? 0 : row + 1) {
+        int blank = row < 5 || row + 5 >= rows;
+        for (unsigned clock = 0; clock < CLOCKS; clock++) {
+            random = random * 1664525u + 1013904223u;
+            unsigned in_code = clock < 4 ? clock : clock - COLUMNS - 4;
+            uint32_t xy = clock < 4 ? (blank ? 0xAB : 0x80) : (blank ? 0xB6 : 0x9D);
+            uint32_t byte = in_code == 0 ? 0xFF : in_code == 1 || in_code == 2 ? 0 : in_code == 3 ? xy : 1 + (random >> 24) * 254 / 256;
+            for (uint32_t level = 0; level < 2 && n < count; level++, n++)
+                samples[n] = byte | level << 16 | (!overrun && n % 4 == 3 ? 1u << 17 : 0);
+        }
+    }
+}
+
 static double seconds(void)
 {
     struct timespec t;
@@ -71,31 +91,40 @@ static double seconds(void)
     return (double)t.tv_sec + 1e-9 * (double)t.tv_nsec;
 }
 
+static void set_up(dcmi_writes *writes, uint8_t offset, uint32_t value)
+{
+    writes->offset[writes->count] = offset;
+    writes->value[writes->count++] = value;
+}
+
 int main(int count, char **words)
 {
     if (count < 6 || count == 8)
         return fprintf(stderr, "usage: bench lib|one|file|little|model|none|nofile|trace WIDTH CROP OVERRUN ROWS [TIMES [DEPTH WAITING [SAMPLES]]]\n"), 2;
-    int jpeg = !strcmp(words[2], "jpeg");
-    unsigned width = jpeg ? 8 : (unsigned)atoi(words[2]), rows = (unsigned)atoi(words[5]), times = count > 6 ? (unsigned)atoi(words[6]) : 1;
+    int jpeg = !strcmp(words[2], "jpeg"), ess = !strcmp(words[2], "ess");
+    unsigned width = jpeg || ess ? 8 : (unsigned)atoi(words[2]), rows = (unsigned)atoi(words[5]), times = count > 6 ? (unsigned)atoi(words[6]) : 1;
     unsigned depth = count > 8 ? (unsigned)atoi(words[7]) : 4, waiting = count > 8 ? (unsigned)atoi(words[8]) : 0;
     size_t n = count > 9 ? (size_t)atol(words[9]) : (size_t)2 * CLOCKS * rows;
     int crop = atoi(words[3]), overrun = atoi(words[4]);
-    if (rows < 11 || n > MOST_SAMPLES || width < 8 || width > 14 || waiting > depth || (waiting && crop) || (jpeg && (crop || waiting)))
+    if (rows < 11 || n > MOST_SAMPLES || width < 8 || width > 14 || waiting > depth || (waiting && crop) || (jpeg && (crop || waiting))
+        || (ess && waiting))
         return 2;
-    uint32_t cr = 0x40E1u | (width - 8) / 2 << 10 | (crop ? 4u : 0) | (jpeg ? 8u : 0), start = 100u << 16 | 100, size = 199u << 16 | 299;
+    uint32_t cr = 0x40E1u | (width - 8) / 2 << 10 | (crop ? 4u : 0) | (jpeg ? 8u : 0) | (ess ? 16u : 0), start = 100u << 16 | 100, size = 199u << 16 | 299;
     if (jpeg)
         make_compressed(n, rows, overrun);
+    else if (ess)
+        make_coded(n, rows, overrun);
     else
         make(n, rows, overrun, width, waiting);
     int one = !strcmp(words[1], "one"), little = !strcmp(words[1], "little"), run = little || !strcmp(words[1], "file");
     int trace = !strcmp(words[1], "trace"), filed = run || trace || !strcmp(words[1], "nofile");
 
-    dcmi_writes writes = {crop ? 3 : 1, {DCMI_CR}, {cr}};
-    if (crop) {
-        writes.offset[0] = DCMI_CWSTRT, writes.value[0] = start;
-        writes.offset[1] = DCMI_CWSIZE, writes.value[1] = size;
-        writes.offset[2] = DCMI_CR, writes.value[2] = cr;
-    }
+    static dcmi_writes writes;
+    if (ess)
+        set_up(&writes, DCMI_ESCR, 0xFF9D80FF), set_up(&writes, DCMI_ESUR, 0xFFFFFFFF);
+    if (crop)
+        set_up(&writes, DCMI_CWSTRT, start), set_up(&writes, DCMI_CWSIZE, size);
+    set_up(&writes, DCMI_CR, cr);
     size_t length = 0;
     if (filed && dcmi_trace_write(&writes, samples, n, file, sizeof file, &length))
         return 1;

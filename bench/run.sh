@@ -1,6 +1,6 @@
 #!/usr/bin/env bash
 # The tables of docs/SPEED.md: instructions and time a sample, of dcmi_run, dcmi_run_file, dcmi_sample and the model of tests/c; then of dcmi_run_file and
-# the frame printer by the length of the trace. Takes about a minute and a half; no test.
+# the frame printer by the length of the trace. Takes about two minutes; no test.
 set -eu
 cd "$(dirname "$0")/.."
 out=target/bench
@@ -43,6 +43,7 @@ echo '|---|---|---|---|---|---|---|---|---|'
 row() {
     local bits=$1 crop=no grants='one in four' waiting='at most 1'
     [ "$1" = jpeg ] && bits='8, JPEG'
+    [ "$1" = ess ] && bits='8, codes'
     [ "$2" = 1 ] && crop=yes
     [ "$3" = 1 ] && grants=none waiting=overrun
     [ "$6" != 0 ] && grants='one a word' waiting=$6
@@ -62,6 +63,8 @@ row 14 0 0 490 4 3
 row 14 0 0 490 32 0
 row 14 0 0 490 32 30
 row jpeg 0 0 98 4 0 646800 # five pictures, each with a padded word at its end
+row ess 0 0 490 4 0 # one picture as ITU 656 sends it
+row ess 1 0 490 4 0
 echo
 sample() {
     count_cost one 14 0 0 490 "$1" "$3"

@@ -24,8 +24,9 @@ enum {
     DCMI_NO_REGISTER = 2,  /* no register at the offset */
     DCMI_ACCESS = 3,       /* read of ICR, or write of SR, RIS, MIS */
     DCMI_RESERVED = 4,     /* a reserved bit of the written value is 1 */
-    DCMI_UNSUPPORTED = 5,  /* CR with ESS 1, FCRC 3, CAPTURE 1 and ENABLE 0, or JPEG 1 and not both EDM 0 and CROP 0 */
-    DCMI_ENABLED = 6,      /* ENABLE is 1, and CWSTRT or CWSIZE is written, even with the value it holds, or a CR bit other than 0 and 14 would change */
+    DCMI_UNSUPPORTED = 5,  /* CR with FCRC 3, CAPTURE 1 and ENABLE 0, JPEG 1 and not both EDM 0 and CROP 0, or ESS 1 and not both EDM 0 and JPEG 0 */
+    DCMI_ENABLED = 6,      /* ENABLE is 1, and ESCR, ESUR, CWSTRT or CWSIZE is written, even with the value it holds, or a CR bit other than 0 and 14
+                            * would change */
     DCMI_SAMPLE_BITS = 7,  /* a sample has a bit above 17 */
     DCMI_SAMPLES = 8,      /* samples in all would pass 4,294,967,295 */
     DCMI_START = 9,        /* start byte above the memory length */
@@ -40,14 +41,16 @@ enum {
 
 /* Register offsets. */
 enum {
-    DCMI_CR = 0x00, DCMI_SR = 0x04, DCMI_RIS = 0x08, DCMI_IER = 0x0C, DCMI_MIS = 0x10, DCMI_ICR = 0x14, DCMI_CWSTRT = 0x20, DCMI_CWSIZE = 0x24
+    DCMI_CR = 0x00, DCMI_SR = 0x04, DCMI_RIS = 0x08, DCMI_IER = 0x0C, DCMI_MIS = 0x10, DCMI_ICR = 0x14, DCMI_ESCR = 0x18, DCMI_ESUR = 0x1C,
+    DCMI_CWSTRT = 0x20, DCMI_CWSIZE = 0x24
 };
 
 /* A device: an image of 32-bit words that the caller owns, copies and stores as it likes. `dcmi_reset` and `dcmi_reset_depth` make a fresh one.
- * A word that is 0 or 1 says no or yes; an image with another value there, a frame above 2, or lines or pixels in a closed frame encodes no device: every call
- * that reads a device refuses it with DCMI_MALFORMED, as it does a device that breaks one of the rules for well-formed devices. */
+ * A word that is 0 or 1 says no or yes; an image with another value there, a frame above 2, more than 3 waiting bytes, or lines or pixels in a closed frame
+ * encodes no device: every call that reads a device refuses it with DCMI_MALFORMED, as it does a device that breaks one of the rules for well-formed
+ * devices. */
 enum {
-    DCMI_WORDS = 55,
+    DCMI_WORDS = 58,
     DCMI_W_CR = 0,             /* registers */
     DCMI_W_RIS = 1,
     DCMI_W_IER = 2,
@@ -56,10 +59,11 @@ enum {
     DCMI_W_HSYNC = 5,          /* levels of the pins at the last sample: 0 or 1 */
     DCMI_W_VSYNC = 6,
     DCMI_W_CLOCK = 7,
-    DCMI_W_HSYNC_BLANKED = 8,  /* whether each sync blanked at the last working edge: 0 or 1 */
+    DCMI_W_HSYNC_BLANKED = 8,  /* whether each sync blanked at the last working edge: 0 or 1. With ESS 1 what the codes said: in an open frame
+                                * HSYNC_BLANKED is 0 in a line; with no frame open VSYNC_BLANKED is 0 until a frame start, with FSC 0xFF a frame end */
     DCMI_W_VSYNC_BLANKED = 9,
     DCMI_W_FRAME = 10,         /* 0 closed, 1 open and not taken, 2 open and taken */
-    DCMI_W_LINES = 11,         /* lines begun in the open frame, pixels of the last line; both 0 in a closed one */
+    DCMI_W_LINES = 11,         /* lines begun in the open frame, pixels of the last line, with ESS 1 the waiting bytes too; both 0 in a closed one */
     DCMI_W_PIXELS = 12,
     DCMI_W_RATE = 13,          /* the rate counter */
     DCMI_W_PARTIAL_COUNT = 14, /* the partial word: how many data, and their bits */
@@ -71,14 +75,17 @@ enum {
     DCMI_W_COMPLETED = 51,
     DCMI_W_LANDED = 52,
     DCMI_W_DISCARDED = 53,
-    DCMI_W_DEPTH = 54          /* the depth of the FIFO, 1 to 32, fixed when the device is made */
+    DCMI_W_DEPTH = 54,         /* the depth of the FIFO, 1 to 32, fixed when the device is made */
+    DCMI_W_ESCR = 55,          /* registers of embedded codes */
+    DCMI_W_ESUR = 56,
+    DCMI_W_WAITING = 57        /* how many bytes wait that may begin a code: none, FF, FF 00 or FF 00 00 */
 };
 
 typedef struct dcmi_device {
     uint32_t word[DCMI_WORDS];
 } dcmi_device;
 
-/* The two answers of one sample: where a word landed, and what became of the word that the sample completed. */
+/* The two answers of one sample: where a word landed, and what became of the word that the sample completed. One that raises ERR completes none. */
 enum { DCMI_NOTHING = 0, DCMI_COMPLETED = 1, DCMI_LOST = 2 };
 
 typedef struct dcmi_answer {

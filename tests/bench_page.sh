@@ -1,6 +1,6 @@
 #!/usr/bin/env bash
-# docs/BENCH.md: its two programs are taken out, compiled without a warning and run; the commands of the ice bath are run; what they print is what the
-# page shows.
+# docs/BENCH.md: its two programs are taken out, compiled without a warning and run; the commands of the ice bath and of the codes are run; what they print
+# is what the page shows.
 set -u
 cd "$(dirname "$0")/.." || exit 2
 . tests/c/library.sh
@@ -28,25 +28,28 @@ program() {
 program 'A first program' first
 program 'Compressed pictures' compressed
 
-# The commands stand after a dollar sign, what they print under them; rt's own lines are not shown.
-awk '/^## The ice bath$/ { on = 1; next } /^## / { on = 0 } on && /^    / { print substr($0, 5) }' "$page" >"$out/ice_bath.shown"
-commands=$(grep -c '^\$ ' "$out/ice_bath.shown")
-[ "$commands" -gt 0 ] || fail "$page has no command under The ice bath"
-printed=$out/ice_bath.printed
-: >"$printed"
-while IFS= read -r line; do
-    case $line in
-    '$ rt check frame_printer')
-        echo "$line" >>"$printed"
-        rt check frame_printer >"$out/frame_printer.log" 2>&1 || fail "rt check frame_printer ($out/frame_printer.log)"
-        ;;
-    '$ cmp -l samples/'* | '$ target/bin/frame_printer < samples/'*)
-        echo "$line" >>"$printed"
-        bash -c "${line#\$ }" >>"$printed"
-        ;;
-    '$ '*) fail "$page has a command that this test does not know: $line" ;;
-    esac
-done <"$out/ice_bath.shown"
-diff "$out/ice_bath.shown" "$printed" || fail "the commands of $page print what stands at > above"
+# The commands of a section stand after a dollar sign, what they print under them; rt's own lines are not shown.
+commands() {
+    local section=$1 name=$out/$2 line
+    awk -v section="## $section" '$0 == section { on = 1; next } /^## / { on = 0 } on && /^    / { print substr($0, 5) }' "$page" >"$name.shown"
+    grep -q '^\$ ' "$name.shown" || fail "$page has no command under $section"
+    : >"$name.printed"
+    while IFS= read -r line; do
+        case $line in
+        '$ rt check frame_printer')
+            echo "$line" >>"$name.printed"
+            rt check frame_printer >"$out/frame_printer.log" 2>&1 || fail "rt check frame_printer ($out/frame_printer.log)"
+            ;;
+        '$ cmp -l samples/'* | '$ target/bin/frame_printer < samples/'*)
+            echo "$line" >>"$name.printed"
+            bash -c "${line#\$ }" >>"$name.printed"
+            ;;
+        '$ '*) fail "$page has a command that this test does not know: $line" ;;
+        esac
+    done <"$name.shown"
+    diff "$name.shown" "$name.printed" || fail "the commands of $page, $section, print what stands at > above"
+}
+commands 'The ice bath' ice_bath
+commands 'Codes in the data' codes
 
-echo "docs/BENCH.md: the programs print the $(cat "$out/first.shown" "$out/compressed.shown" | wc -l) lines that the page shows, the $commands commands of the ice bath what stands under them."
+echo "docs/BENCH.md: the programs print the $(cat "$out/first.shown" "$out/compressed.shown" | wc -l) lines that the page shows, the $(cat "$out/ice_bath.shown" "$out/codes.shown" | grep -c '^\$ ') commands what stands under them."

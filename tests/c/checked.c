@@ -21,7 +21,9 @@ static const char *word_name(unsigned word)
         "CR", "RIS", "IER", "CWSTRT", "CWSIZE", "HSYNC", "VSYNC", "CLOCK", "HSYNC_BLANKED", "VSYNC_BLANKED", "FRAME", "LINES", "PIXELS", "RATE",
         "PARTIAL_COUNT", "PARTIAL_BITS",
     };
-    static const char *const after[DCMI_WORDS - DCMI_W_HELD] = { "HELD", "PLACE", "SAMPLES", "COMPLETED", "LANDED", "DISCARDED", "DEPTH" };
+    static const char *const after[DCMI_WORDS - DCMI_W_HELD] = {
+        "HELD", "PLACE", "SAMPLES", "COMPLETED", "LANDED", "DISCARDED", "DEPTH", "ESCR", "ESUR", "WAITING",
+    };
     static char slot[24];
     if (word < DCMI_W_SLOT) return before[word];
     if (word >= DCMI_W_HELD) return after[word - DCMI_W_HELD];

@@ -10,12 +10,13 @@ static_assert(DCMI_MARK == 10 && DCMI_VERSION == 11 && DCMI_COUNT == 12 && DCMI_
 static_assert(DCMI_WRITES == 14 && DCMI_ROOM == 15, "refusals of the writer");
 static_assert(DCMI_DEPTH == 18, "refusal of a depth");
 static_assert(DCMI_CR == 0x00 && DCMI_SR == 0x04 && DCMI_RIS == 0x08 && DCMI_IER == 0x0C && DCMI_MIS == 0x10, "offsets");
-static_assert(DCMI_ICR == 0x14 && DCMI_CWSTRT == 0x20 && DCMI_CWSIZE == 0x24, "offsets");
+static_assert(DCMI_ICR == 0x14 && DCMI_ESCR == 0x18 && DCMI_ESUR == 0x1C && DCMI_CWSTRT == 0x20 && DCMI_CWSIZE == 0x24, "offsets");
 
 /* The layout that the library was built with. */
-static_assert(sizeof(dcmi_device) == 220 && sizeof(dcmi_answer) == 32 && sizeof(dcmi_item) == 32, "sizes");
-static_assert(DCMI_WORDS == 55 && DCMI_W_PARTIAL_BITS == 15 && DCMI_W_SLOT == 16 && DCMI_W_HELD == 48, "words of a device");
-static_assert(DCMI_W_DISCARDED == 53 && DCMI_W_DEPTH == DCMI_WORDS - 1, "words of a device");
+static_assert(sizeof(dcmi_device) == 232 && sizeof(dcmi_answer) == 32 && sizeof(dcmi_item) == 32, "sizes");
+static_assert(DCMI_WORDS == 58 && DCMI_W_PARTIAL_BITS == 15 && DCMI_W_SLOT == 16 && DCMI_W_HELD == 48, "words of a device");
+static_assert(DCMI_W_DISCARDED == 53 && DCMI_W_DEPTH == 54 && DCMI_W_ESCR == 55 && DCMI_W_ESUR == 56, "words of a device");
+static_assert(DCMI_W_WAITING == DCMI_WORDS - 1, "words of a device");
 
 /* Each expression is a call that must answer as said; the exit status is the number of the first that does not. */
 int main(void)

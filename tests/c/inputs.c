@@ -140,6 +140,146 @@ size_t packets(uint32_t cr, uint32_t bytes, uint32_t grant, uint32_t *samples)
     return (size_t)(at - samples);
 }
 
+/* ---- codes in the data ---- */
+
+/* Bytes of ESCR and ESUR by the delimiter. */
+enum { FRAME_START, LINE_START, LINE_END, FRAME_END };
+static uint32_t field(uint32_t codes, unsigned delimiter) { return codes >> 8 * delimiter & 0xFF; }
+
+void any_codes(uint32_t *escr, uint32_t *esur)
+{
+    *escr = 0xFF9D80FF; /* ITU 656 */
+    *esur = UINT32_MAX;
+    const uint32_t kind = below(8);
+    if (kind == 0) return;
+    *escr = random_u32();
+    if (kind == 1) { /* one bit tells a delimiter from the others */
+        *escr = 0x80402010;
+        *esur = 0x80402010;
+    }
+    if (kind == 2) *esur = random_u32();
+    if (kind == 3) *esur = random_u32() & random_u32() & random_u32();
+    if (kind == 4) *esur = UINT32_C(0xFF) << 8 * below(4) | random_u32();
+    for (unsigned i = 0; i < 4; i++) {
+        const uint32_t all = UINT32_C(0xFF) << 8 * i;
+        if (chance(1, 5)) *escr |= all;
+        if (chance(1, 16)) *esur &= ~all;
+    }
+}
+
+/* One that agrees with a delimiter on its unmask bits. */
+static uint32_t agreeing(uint32_t escr, uint32_t esur, unsigned delimiter)
+{
+    const uint32_t unmask = field(esur, delimiter);
+    return (field(escr, delimiter) & unmask) | (random_u32() & 0xFF & ~unmask);
+}
+
+/* One that agrees with none but the frame end, if a few trials find it: what FEC 0xFF means. */
+static uint32_t other_byte(uint32_t escr, uint32_t esur)
+{
+    uint32_t xy = 0;
+    for (unsigned tries = 64; tries; tries--) {
+        bool alone = true;
+        xy = below(256);
+        for (unsigned i = FRAME_START; i < FRAME_END; i++) alone &= ((xy ^ field(escr, i)) & field(esur, i)) != 0;
+        if (alone) break;
+    }
+    return xy;
+}
+
+uint32_t code_byte(uint32_t escr, uint32_t esur)
+{
+    switch (below(8)) {
+    case 0: return 0xFF;
+    case 1: return 0x00;
+    case 2: return below(256);
+    case 3: return other_byte(escr, esur);
+    default: return agreeing(escr, esur, below(4));
+    }
+}
+
+/* A picture's bytes that are being made. */
+typedef struct pen {
+    uint32_t escr, esur;
+    uint32_t like_codes;  /* chance of a byte of which codes are made, of 256 */
+    bool damaged;
+    uint8_t *at;
+} pen;
+
+static void put_data(pen *p, uint32_t count)
+{
+    static const uint8_t made_of[4] = { 0xFF, 0x00, 0x00, 0xFF };
+    while (count--) *p->at++ = (uint8_t)(below(256) < p->like_codes ? made_of[below(4)] : between(1, 254));
+}
+
+static void put_xy(pen *p, uint32_t xy)
+{
+    *p->at++ = 0xFF;
+    *p->at++ = 0x00;
+    *p->at++ = 0x00;
+    *p->at++ = (uint8_t)xy;
+}
+
+/* A code for a delimiter; of a damaged picture it may be none, two or another. */
+static void put_code(pen *p, unsigned delimiter)
+{
+    const bool other = delimiter == FRAME_END && field(p->escr, FRAME_END) == 0xFF;
+    const uint32_t xy = other ? other_byte(p->escr, p->esur) : agreeing(p->escr, p->esur, delimiter);
+    switch (p->damaged ? below(40) : 40) {
+    case 0: return;
+    case 1: put_xy(p, xy); break;
+    case 2: put_xy(p, code_byte(p->escr, p->esur)); return;
+    case 3: put_xy(p, code_byte(p->escr, p->esur)); break;
+    case 4: put_xy(p, below(256)); return;
+    default: break;
+    }
+    put_xy(p, xy);
+}
+
+size_t coded_picture(uint32_t escr, uint32_t esur, uint32_t width, bool damaged, uint8_t *bytes)
+{
+    static const uint32_t chances[] = { 0, 0, 16, 64, 160 };
+    pen p = { .escr = escr, .esur = esur, .like_codes = chances[below(5)], .damaged = damaged, .at = bytes };
+    const bool by_line = field(escr, FRAME_START) == 0xFF;
+    const uint32_t lines = between(1, 5);
+    put_data(&p, chance(1, 2) ? 0 : below(8));
+    if (by_line && chance(1, 2)) put_code(&p, FRAME_END);
+    for (uint32_t line = 0; line < lines; line++) {
+        put_code(&p, line || by_line ? LINE_START : FRAME_START);
+        if (chance(7, 8)) put_data(&p, chance(1, 2) ? width : below(width + 1));
+        if (line + 1 < lines || chance(1, 2)) put_code(&p, LINE_END);
+        put_data(&p, chance(1, 2) ? 0 : below(6));
+    }
+    put_code(&p, FRAME_END);
+    put_data(&p, chance(1, 2) ? 0 : below(6));
+    return (size_t)(p.at - bytes);
+}
+
+void byte_samples(uint32_t cr, const uint8_t *bytes, size_t count, uint32_t grant, uint32_t *samples)
+{
+    const uint32_t working = cr >> 5 & 1;
+    for (size_t i = 0; i < 2 * count; i++) {
+        const uint64_t random = random_u64();
+        samples[i] = bytes[i / 2] | (random & 0xFF00) | (i % 2 == working) << 16 | (uint32_t)((random >> 32 & 0xFF) < grant) << 17;
+    }
+}
+
+void coded_samples(uint32_t cr, uint32_t escr, uint32_t esur, uint32_t *samples, size_t count)
+{
+    static const uint32_t grants[] = { 0, 16, 64, 256 };
+    static uint8_t bytes[MOST_CODED];
+    static uint32_t made[2 * MOST_CODED];
+    const uint32_t grant = grants[below(4)];
+    while (count) {
+        const size_t of_picture = coded_picture(escr, esur, below(chance(1, 2) ? 12 : 48), chance(1, 4), bytes);
+        const size_t taken = 2 * of_picture < count ? 2 * of_picture : count;
+        byte_samples(cr, bytes, of_picture, grant, made);
+        memcpy(samples, made, taken * sizeof *made);
+        samples += taken;
+        count -= taken;
+    }
+}
+
 /* ---- depths ---- */
 
 uint32_t any_depth(void)
@@ -187,6 +327,19 @@ uint32_t any_jpeg(void)
     }
 }
 
+uint32_t valid_ess(void) { return (valid_cr() & ~UINT32_C(0xC08)) | 0x10; }
+
+uint32_t any_ess(void)
+{
+    const uint32_t cr = chance(1, 2) ? valid_ess() : valid_ess() & ~UINT32_C(0x4001);
+    switch (below(5)) {
+    case 0: return cr | between(1, 3) << 10;   /* EDM */
+    case 1: return cr | 0x8;                   /* JPEG */
+    case 2: return cr | (random_u32() & 0x1F1C);
+    default: return cr;
+    }
+}
+
 uint32_t valid_cwstrt(void)
 {
     if (chance(1, 8)) return random_u32() & 0x1FFF3FFF;
@@ -203,25 +356,25 @@ uint32_t valid_cwsize(void)
 
 uint32_t any_offset(void)
 {
-    static const uint32_t registers[] = { 0x00, 0x04, 0x08, 0x0C, 0x10, 0x14, 0x20, 0x24 };
-    const uint32_t known = registers[below(8)];
+    const uint32_t known = 4 * below(10);
     if (chance(7, 8)) return known;
-    switch (below(5)) {
-    case 0: return 0x18;
-    case 1: return 0x1C;
-    case 2: return below(0x30);
-    case 3: return known | UINT32_C(1) << between(6, 31);
+    switch (below(4)) {
+    case 0: return 0x28;
+    case 1: return below(0x30);
+    case 2: return known | UINT32_C(1) << between(6, 31);
     default: return random_u32();
     }
 }
 
 uint32_t any_value(const uint32_t *device)
 {
-    switch (below(11)) {
+    switch (below(13)) {
     case 0: return 0;
     case 1: return below(32);
     case 2: return valid_cr();
     case 9: return any_jpeg();
+    case 10: return any_ess();
+    case 11: return chance(1, 2) ? device[DCMI_W_ESCR] : device[DCMI_W_ESUR];
     case 3: return device[DCMI_W_CR] ^ UINT32_C(1) << below(16);
     case 4: return device[DCMI_W_CR] ^ 1;
     case 5: return device[DCMI_W_CR] & ~UINT32_C(0x4001);
@@ -292,14 +445,17 @@ static void image_partial(uint32_t *w)
 void image_well_formed(uint32_t *w)
 {
     const bool enabled = chance(7, 8);
+    const uint32_t cr = chance(1, 5) ? valid_ess() : valid_cr();
     memset(w, 0, 4 * DCMI_WORDS);
     w[DCMI_W_DEPTH] = any_depth();
-    w[DCMI_W_CR] = enabled ? valid_cr() : valid_cr() & ~UINT32_C(0x4001);
+    w[DCMI_W_CR] = enabled ? cr : cr & ~UINT32_C(0x4001);
     w[DCMI_W_RIS] = below(32);
     w[DCMI_W_IER] = below(32);
     w[DCMI_W_CWSTRT] = chance(1, 4) ? random_u32() & 0x1FFF3FFF : valid_cwstrt();
     w[DCMI_W_CWSIZE] = chance(1, 4) ? random_u32() & 0x3FFF3FFF : valid_cwsize();
     for (unsigned i = DCMI_W_HSYNC; i <= DCMI_W_VSYNC_BLANKED; i++) w[i] = below(2);
+    any_codes(&w[DCMI_W_ESCR], &w[DCMI_W_ESUR]);
+    w[DCMI_W_WAITING] = below(4);
     if (enabled) {
         w[DCMI_W_FRAME] = below(3);
         w[DCMI_W_RATE] = below(UINT32_C(1) << (w[DCMI_W_CR] >> 8 & 3));
@@ -317,7 +473,7 @@ bool image_window(uint32_t *w)
     if (chance(1, 2)) w[DCMI_W_CWSIZE] = random_u32() & 0x3FFF3FFF;
     const uint32_t last_line = (w[DCMI_W_CWSTRT] >> 16) + (w[DCMI_W_CWSIZE] >> 16);
     if (!w[DCMI_W_FRAME] || w[DCMI_W_SAMPLES] < last_line + 2 || w[DCMI_W_SAMPLES] == UINT32_MAX) return false;
-    w[DCMI_W_CR] = (w[DCMI_W_CR] & ~UINT32_C(0x8)) | 0x4; /* CROP, and no JPEG */
+    w[DCMI_W_CR] = (w[DCMI_W_CR] & ~UINT32_C(0x18)) | 0x4; /* CROP, and neither JPEG nor ESS */
     w[DCMI_W_RIS] &= ~UINT32_C(1);
     w[DCMI_W_CLOCK] = ~w[DCMI_W_CR] >> 5 & 1; /* PCKPOL */
     w[DCMI_W_LINES] = last_line;
@@ -327,9 +483,19 @@ bool image_window(uint32_t *w)
 bool image_compressed(uint32_t *w)
 {
     if (!w[DCMI_W_FRAME] || w[DCMI_W_SAMPLES] == UINT32_MAX) return false;
-    w[DCMI_W_CR] = (w[DCMI_W_CR] & ~UINT32_C(0xC04)) | 0x8;
+    w[DCMI_W_CR] = (w[DCMI_W_CR] & ~UINT32_C(0xC14)) | 0x8;
     w[DCMI_W_CLOCK] = ~w[DCMI_W_CR] >> 5 & 1; /* PCKPOL */
     if (w[DCMI_W_FRAME] == 2) image_partial(w);
+    return true;
+}
+
+bool image_codes(uint32_t *w)
+{
+    if (!(w[DCMI_W_CR] & 0x4000) || w[DCMI_W_SAMPLES] == UINT32_MAX) return false;
+    w[DCMI_W_CR] = (w[DCMI_W_CR] & ~UINT32_C(0xC08)) | 0x10;
+    w[DCMI_W_CLOCK] = ~w[DCMI_W_CR] >> 5 & 1; /* PCKPOL */
+    if (w[DCMI_W_FRAME] == 2) image_partial(w);
+    if (w[DCMI_W_FRAME] && chance(1, 2)) w[DCMI_W_PIXELS] = below(w[DCMI_W_SAMPLES] < 6 ? w[DCMI_W_SAMPLES] + 1 : 6);
     return true;
 }
 
@@ -339,6 +505,13 @@ static void image_no_jpeg(uint32_t *w)
     w[DCMI_W_CR] |= 0x8;
     if (w[DCMI_W_CR] & 0xC04 && chance(3, 4)) return;
     w[DCMI_W_CR] |= chance(1, 2) ? 0x4 : chance(1, 2) ? 0x10 : between(1, 3) << 10;
+}
+
+/* ESS with an EDM other than 0. */
+static void image_no_ess(uint32_t *w)
+{
+    w[DCMI_W_CR] |= 0x10;
+    if (!(w[DCMI_W_CR] & 0xC00)) w[DCMI_W_CR] |= between(1, 3) << 10;
 }
 
 /* Too many held words, the equation of counts kept; at times as many as a depth that is too large. */
@@ -393,11 +566,13 @@ static unsigned any_word(void)
 
 void image_damage(uint32_t *w)
 {
-    switch (below(24)) {
+    switch (below(26)) {
     case 0: image_wrap(w); return;
     case 1: case 2: image_overfull(w); return;
     case 3: w[DCMI_W_DEPTH] = bad_depth(); return;
     case 4: image_no_jpeg(w); return;
+    case 5: image_no_ess(w); return;
+    case 6: w[DCMI_W_WAITING] = chance(1, 2) ? 4 : between(4, UINT32_MAX); return;
     default: break;
     }
     uint32_t values[MOST_BOUNDS];
@@ -416,17 +591,23 @@ static void trace_put(trace *t, uint8_t offset, uint32_t value)
 void trace_valid(trace *t, size_t count)
 {
     scene s;
-    const uint32_t cr = valid_cr();
+    const bool coded = chance(1, 6);
+    const uint32_t cr = coded ? valid_ess() : valid_cr();
+    uint32_t escr, esur;
+    any_codes(&escr, &esur);
     t->writes.count = 0;
     if (chance(3, 4)) trace_put(t, DCMI_CWSTRT, valid_cwstrt());
     if (chance(3, 4)) trace_put(t, DCMI_CWSIZE, valid_cwsize());
     if (chance(1, 2)) trace_put(t, DCMI_IER, below(32));
     if (chance(1, 2)) trace_put(t, DCMI_ICR, below(32));
+    if (coded || chance(1, 4)) trace_put(t, DCMI_ESCR, escr);
+    if (coded || chance(1, 4)) trace_put(t, DCMI_ESUR, esur);
     if (chance(1, 4)) trace_put(t, DCMI_CR, cr & ~UINT32_C(1));
     if (chance(7, 8)) trace_put(t, DCMI_CR, cr);
     scene_make(&s, cr);
     t->count = count;
-    scene_samples(&s, t->samples, count);
+    if (coded) coded_samples(cr, escr, esur, t->samples, count);
+    else scene_samples(&s, t->samples, count);
     if (count && chance(1, 4)) t->samples[below((uint32_t)count)] = 0x3FFFF;
 }
 

@@ -42,6 +42,19 @@ void scene_samples(scene *s, uint32_t *samples, size_t count);
 enum { MOST_PACKETS = 1024 };
 size_t packets(uint32_t cr, uint32_t bytes, uint32_t grant, uint32_t *samples);
 
+/* W6. ESCR and ESUR: those of ITU 656, four codes, often with 0xFF for FSC or FEC and few unmask bits, or anything. */
+void any_codes(uint32_t *escr, uint32_t *esur);
+/* A byte of which codes are made: FF, 00, one of ESCR with any masked bits, or any. */
+uint32_t code_byte(uint32_t escr, uint32_t esur);
+/* The bytes of a picture with codes, its lines about so long; returns how many there are. Often its data have bytes of which codes are made. A damaged one
+ * has codes that are missing, doubled, out of order or others. */
+enum { MOST_CODED = 2048 };
+size_t coded_picture(uint32_t escr, uint32_t esur, uint32_t width, bool damaged, uint8_t *bytes);
+/* Two samples a byte, the second at the working edge; each has a chance of a grant, of 256, and any sync pins and data bits above the byte. */
+void byte_samples(uint32_t cr, const uint8_t *bytes, size_t count, uint32_t grant, uint32_t *samples);
+/* So many samples of pictures with codes. */
+void coded_samples(uint32_t cr, uint32_t escr, uint32_t esur, uint32_t *samples, size_t count);
+
 /* Depths of the FIFO, often 1, 2, 4 or 32; and numbers that are none. */
 uint32_t any_depth(void);
 uint32_t bad_depth(void);
@@ -50,6 +63,9 @@ uint32_t bad_depth(void);
 uint32_t valid_cr(void);
 uint32_t valid_jpeg(void);
 uint32_t any_jpeg(void);
+/* One with ESS 1; one with ESS 1 that may be refused for it. */
+uint32_t valid_ess(void);
+uint32_t any_ess(void);
 uint32_t valid_cwstrt(void);
 uint32_t valid_cwsize(void);
 uint32_t any_offset(void);
@@ -62,6 +78,8 @@ void image_well_formed(uint32_t *image);
 bool image_window(uint32_t *image);
 /* One with an open frame gets JPEG 1, EDM 0 and CROP 0; the next sample can be a working edge. False if it has no open frame, or no sample is left. */
 bool image_compressed(uint32_t *image);
+/* One with ENABLE 1 gets ESS 1, EDM 0 and JPEG 0, often few pixels; the next sample can be a working edge. False if it has ENABLE 0, or no sample is left. */
+bool image_codes(uint32_t *image);
 /* One word becomes something else; the device is mostly malformed then. */
 void image_damage(uint32_t *image);
 /* Values for a word of an image that lie near a bound; returns how many. */
@@ -76,7 +94,7 @@ typedef struct trace {
     uint32_t samples[TRACE_SAMPLES];
 } trace;
 
-/* A trace that is accepted: a set-up, then a camera's samples. */
+/* A trace that is accepted: a set-up, then a camera's samples; at times one with codes. */
 void trace_valid(trace *t, size_t count);
 /* One of a scene_full, nothing cropped. */
 void trace_full(trace *t, size_t count);

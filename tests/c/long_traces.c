@@ -152,7 +152,7 @@ static void longest_file(void)
     bytes[length - 1] = 0xFF;
     expect("its start, its last sample", 9, check_run_file_depth(32, bytes, length, 17));
     expect("its last sample", 7, check_trace_item(bytes, length, end - 1, NULL));
-    bytes[10 + 5 * 254] = 0x18;
+    bytes[10 + 5 * 254] = 0x28;
     expect("its last write", 2, check_run_file(bytes, length, 0));
     munmap(bytes, length + 4096);
 }

@@ -7,7 +7,7 @@
 
 /* ---- Registers ---- */
 
-enum { CR = 0x00, SR = 0x04, RIS = 0x08, IER = 0x0C, MIS = 0x10, ICR = 0x14, CWSTRT = 0x20, CWSIZE = 0x24 };
+enum { CR = 0x00, SR = 0x04, RIS = 0x08, IER = 0x0C, MIS = 0x10, ICR = 0x14, ESCR = 0x18, ESUR = 0x1C, CWSTRT = 0x20, CWSIZE = 0x24 };
 
 static inline uint32_t fcrc(uint32_t cr) { return cr >> 8 & 3; }
 static inline uint32_t edm(uint32_t cr) { return cr >> 10 & 3; }
@@ -18,7 +18,8 @@ static inline uint32_t capcnt(uint32_t cwsize) { return cwsize & 0x3FFF; }
 
 static bool is_register(uint32_t offset)
 {
-    return offset == CR || offset == SR || offset == RIS || offset == IER || offset == MIS || offset == ICR || offset == CWSTRT || offset == CWSIZE;
+    return offset == CR || offset == SR || offset == RIS || offset == IER || offset == MIS || offset == ICR || offset == ESCR || offset == ESUR
+        || offset == CWSTRT || offset == CWSIZE;
 }
 
 /* The bits of a register that can be written; all others are reserved. */
@@ -26,6 +27,7 @@ static uint32_t bits_of(uint32_t offset)
 {
     switch (offset) {
     case CR: return 0x00004FFF;
+    case ESCR: case ESUR: return 0xFFFFFFFF;
     case CWSTRT: return 0x1FFF3FFF;
     case CWSIZE: return 0x3FFF3FFF;
     default: return 0x0000001F; /* IER, ICR */
@@ -35,8 +37,14 @@ static uint32_t bits_of(uint32_t offset)
 /* The syncs that blank: those whose pin equals its polarity bit. HSPOL and VSPOL are bits 6 and 7 of CR. */
 static inline uint32_t blanking(uint32_t pins, uint32_t cr) { return ~(pins ^ cr >> 6) & (HSYNC | VSYNC); }
 
-/* SR: the pins of the last sample and the polarities of now; FNE is bit 2. */
-static uint32_t status(const camera *c) { return blanking(c->pins, c->cr) | (c->held > 0) << 2; }
+/* W6: a line is open in a frame until a code ends it. */
+static inline bool in_line(const camera *c) { return c->frame != FRAME_CLOSED && !(c->blanked & HSYNC); }
+
+/* W6: with ESS 1 HSYNC blanks outside a line, VSYNC outside a frame. */
+static uint32_t outside(const camera *c) { return (in_line(c) ? 0 : HSYNC) | (c->frame != FRAME_CLOSED ? 0 : VSYNC); }
+
+/* SR: the pins of the last sample and the polarities of now, W6: with ESS 1 neither; FNE is bit 2. */
+static uint32_t status(const camera *c) { return (c->cr & ESS ? outside(c) : blanking(c->pins, c->cr)) | (c->held > 0) << 2; }
 
 /* MIS. The interrupt line is up exactly if it is not 0. */
 static uint32_t masked(const camera *c) { return c->ris & c->ier; }
@@ -57,17 +65,19 @@ static inline void empty_fifo(camera *c)
     c->held = 0;
 }
 
-/* Writing CR. CAPTURE cleared inside an open frame: the frame goes on, so nothing is done. */
+/* Writing CR. CAPTURE cleared inside an open frame: the frame goes on, so nothing is done. W6: no bytes wait after enabling and disabling. */
 static void write_cr(camera *c, uint32_t value)
 {
     const uint32_t rises = value & ~c->cr, falls = c->cr & ~value;
     c->cr = value;
     if (rises & ENABLE) {
         c->blanked = 0;
+        c->waiting = 0;
         close_frame(c);
         c->rate = 0;
     }
     if (falls & ENABLE) {
+        c->waiting = 0;
         empty_fifo(c);
         close_frame(c);
         c->rate = 0;
@@ -153,13 +163,13 @@ static inline void place_pixel(camera *c, bool hsync_blanked)
     c->pixels++;
 }
 
-/* Rule 7. Capture: the pixel that was just placed; lines and columns count from 0, the window's ends are included. */
-static inline bool captured(const camera *c)
+/* Rule 7. Capture: the pixel at a place; lines and columns count from 0, the window's ends are included. */
+static inline bool captured(const camera *c, uint32_t line, uint32_t column)
 {
     if (c->frame != FRAME_TAKEN) return false;
     if (!(c->cr & CROP)) return true;
-    const uint32_t line = c->lines - 1, first_line = vst(c->cwstrt), last_line = first_line + vline(c->cwsize);
-    const uint32_t column = c->pixels - 1, first_column = hoffcnt(c->cwstrt), last_column = first_column + capcnt(c->cwsize);
+    const uint32_t first_line = vst(c->cwstrt), last_line = first_line + vline(c->cwsize);
+    const uint32_t first_column = hoffcnt(c->cwstrt), last_column = first_column + capcnt(c->cwsize);
     return first_line <= line && line <= last_line && first_column <= column && column <= last_column;
 }
 
@@ -197,6 +207,132 @@ static inline bool complete(camera *c, uint32_t word, outcome *out)
     return false;
 }
 
+/* ---- Codes in the data, W6 ---- */
+
+/* Where each delimiter stands in ESCR, and its unmask bits in ESUR. */
+enum { FSC = 0, LSC = 8, LEC = 16, FEC = 24 };
+
+typedef enum { NO_MEANING, FRAME_ENDS, FRAME_STARTS, LINE_ENDS, LINE_STARTS } meaning;
+
+/* XY and a delimiter agree on the unmask bits that are 1. */
+static inline bool matches(const camera *c, uint32_t xy, unsigned delimiter) { return !((xy ^ c->escr >> delimiter) & c->esur >> delimiter & 0xFF); }
+
+static inline bool is_ff(const camera *c, unsigned delimiter) { return (c->escr >> delimiter & 0xFF) == 0xFF; }
+
+/* Frame end, frame start, line end, line start is the order. FEC 0xFF: a frame end is just what matches no other. FSC 0xFF matches nothing. */
+static meaning meaning_of(const camera *c, uint32_t xy)
+{
+    if (!is_ff(c, FEC) && matches(c, xy, FEC)) return FRAME_ENDS;
+    if (!is_ff(c, FSC) && matches(c, xy, FSC)) return FRAME_STARTS;
+    if (matches(c, xy, LEC)) return LINE_ENDS;
+    if (matches(c, xy, LSC)) return LINE_STARTS;
+    return is_ff(c, FEC) ? FRAME_ENDS : NO_MEANING;
+}
+
+/* The start code opens the frame and its first line. With CAPTURE 0 the frame is neither taken nor counted. */
+static void open_frame(camera *c)
+{
+    if (c->cr & CAPTURE) frame_start(c);
+    else c->frame = FRAME_UNTAKEN;
+    c->lines = 1;
+    c->pixels = 0;
+    c->blanked = 0;
+}
+
+static void open_line(camera *c)
+{
+    c->lines++;
+    c->pixels = 0;
+    c->blanked = 0;
+}
+
+/* LINE rises with CAPTURE 1; rule 4 with W1: FRAME may rise. */
+static void close_line(camera *c)
+{
+    if (c->cr & CAPTURE) c->ris |= F_LINE;
+    if (c->frame == FRAME_TAKEN && frame_rises(c, c->blanked, HSYNC)) c->ris |= F_FRAME;
+    c->blanked = HSYNC;
+}
+
+/* VSYNC rises with CAPTURE 1, and LINE if a line is closed too; CAPTURE is read before rule 4 clears a snapshot's. */
+static void end_frame(camera *c, outcome *out)
+{
+    if (c->cr & CAPTURE) c->ris |= F_VSYNC | (in_line(c) ? F_LINE : 0);
+    frame_end(c, c->blanked, HSYNC | VSYNC, out);
+    c->blanked = HSYNC | VSYNC;
+}
+
+/* ERR: FIFO and partial word are emptied, the frame closes without FRAME, CAPTURE stays. */
+static void sync_error(camera *c)
+{
+    c->ris |= F_ERR;
+    empty_fifo(c);
+    close_frame(c);
+    c->blanked = 0;
+}
+
+/* After enabling, ERR or overrun: only a frame start counts, with FSC 0xFF a frame end. */
+static inline bool out_of_order(const camera *c) { return c->frame == FRAME_CLOSED && !(c->blanked & VSYNC); }
+
+/* A code, at its last byte. The bytes before it were no pixels of the line. */
+static void take_code(camera *c, uint32_t xy, outcome *out)
+{
+    const bool open = c->frame != FRAME_CLOSED, line = in_line(c);
+    const meaning m = meaning_of(c, xy);
+    if (line) c->pixels -= c->pixels < 3 ? c->pixels : 3;
+    if (out_of_order(c)) {
+        if (m == FRAME_STARTS) open_frame(c);
+        if (m == FRAME_ENDS && is_ff(c, FSC)) c->blanked = HSYNC | VSYNC;
+        return;
+    }
+    switch (m) {
+    case FRAME_ENDS:
+        if (open) end_frame(c, out);
+        break;
+    case FRAME_STARTS:
+        if (open) sync_error(c);
+        else open_frame(c);
+        break;
+    case LINE_ENDS:
+        if (line) close_line(c);
+        else sync_error(c);
+        break;
+    case LINE_STARTS:
+        if (open && !line) open_line(c);
+        else if (!open && is_ff(c, FSC)) open_frame(c);
+        else sync_error(c);
+        break;
+    case NO_MEANING: break;
+    }
+}
+
+/* Rules 7 to 9 of a released byte, after which so many others came. */
+static inline void take_byte(camera *c, uint32_t byte, uint32_t later, outcome *out)
+{
+    const uint32_t line = c->lines ? c->lines - 1 : 0, column = c->pixels > later ? c->pixels - 1 - later : 0;
+    uint32_t word;
+    if (in_line(c) && captured(c, line, column) && pack(c, byte, &word)) complete(c, word, out);
+}
+
+/* The byte of a working edge: the last of a code, one that waits, or one that releases those before it. Kept out of the step, which is slower with it. */
+__attribute__((noinline)) static void arrive(camera *c, uint32_t byte, outcome *out)
+{
+    const uint32_t waited = c->waiting;
+    if (waited == 3) {
+        c->waiting = 0;
+        take_code(c, byte, out);
+        return;
+    }
+    if (in_line(c)) c->pixels++;
+    if (byte == (waited ? 0x00 : 0xFF)) {
+        c->waiting++;
+        return;
+    }
+    c->waiting = byte == 0xFF;
+    for (uint32_t i = 0; i < waited; i++) take_byte(c, i ? 0x00 : 0xFF, waited - i, out);
+    if (byte != 0xFF) take_byte(c, byte, 0, out);
+}
+
 /* An accepted sample: the rules in order. *out is written only where it says that something happened. */
 static inline void step(camera *c, uint8_t *memory, size_t length, size_t start, uint32_t sample, outcome *out)
 {
@@ -211,6 +347,10 @@ static inline void step(camera *c, uint8_t *memory, size_t length, size_t start,
     const bool goes_on = working_edge(c, pins) && (c->cr & ENABLE);
     c->pins = pins;
     if (!goes_on) return;
+    if (c->cr & ESS) {
+        arrive(c, sample & 0xFF, out);
+        return;
+    }
     const uint32_t blanked = c->blanked, blanks = blanking(pins, c->cr);
     c->blanked = blanks;
 
@@ -234,21 +374,23 @@ static inline void step(camera *c, uint8_t *memory, size_t length, size_t start,
     place_pixel(c, blanked & HSYNC);
 
     /* Rules 7, 8 and 9. */
-    if (captured(c) && pack(c, sample, &word)) complete(c, word, out);
+    if (captured(c, c->lines - 1, c->pixels - 1) && pack(c, sample, &word)) complete(c, word, out);
 }
 
 /* ---- Refusal numbers ---- */
 
-/* 5: CR contents. W4: JPEG 1 with EDM 0 and CROP 0 only. */
+/* 5: CR contents. W4: JPEG 1 with EDM 0 and CROP 0 only. W6: ESS 1 with EDM 0 and JPEG 0 only. */
 static bool unsupported(uint32_t cr)
 {
-    return ((cr & JPEG) && (edm(cr) || (cr & CROP))) || (cr & ESS) || fcrc(cr) == 3 || ((cr & CAPTURE) && !(cr & ENABLE));
+    return ((cr & JPEG) && (edm(cr) || (cr & CROP))) || ((cr & ESS) && (edm(cr) || (cr & JPEG))) || fcrc(cr) == 3
+        || ((cr & CAPTURE) && !(cr & ENABLE));
 }
 
 /* 6: what an enabled device keeps. */
 static bool changes_set_up(const camera *c, uint32_t offset, uint32_t value)
 {
-    return offset == CWSTRT || offset == CWSIZE || (offset == CR && ((value ^ c->cr) & ~(uint32_t)(CAPTURE | ENABLE)));
+    return offset == ESCR || offset == ESUR || offset == CWSTRT || offset == CWSIZE
+        || (offset == CR && ((value ^ c->cr) & ~(uint32_t)(CAPTURE | ENABLE)));
 }
 
 /* 7. */
@@ -335,6 +477,8 @@ static uint32_t write_register(camera *c, uint32_t offset, uint32_t value)
     case CR: write_cr(c, value); break;
     case IER: c->ier = value; break;
     case ICR: c->ris &= ~value; break;
+    case ESCR: c->escr = value; break;
+    case ESUR: c->esur = value; break;
     case CWSTRT: c->cwstrt = value; break;
     case CWSIZE: c->cwsize = value; break;
     }
@@ -358,6 +502,8 @@ uint32_t model_read(const camera *c, uint32_t offset, uint32_t *value)
     case RIS: *value = c->ris; break;
     case IER: *value = c->ier; break;
     case MIS: *value = masked(c); break;
+    case ESCR: *value = c->escr; break;
+    case ESUR: *value = c->esur; break;
     case CWSTRT: *value = c->cwstrt; break;
     case CWSIZE: *value = c->cwsize; break;
     }
@@ -524,10 +670,11 @@ bool model_from_image(camera *c, const uint32_t *w)
 {
     if (w[DCMI_W_HSYNC] > 1 || w[DCMI_W_VSYNC] > 1 || w[DCMI_W_CLOCK] > 1) return false;
     if (w[DCMI_W_HSYNC_BLANKED] > 1 || w[DCMI_W_VSYNC_BLANKED] > 1) return false;
-    if (w[DCMI_W_FRAME] > 2) return false;
+    if (w[DCMI_W_FRAME] > 2 || w[DCMI_W_WAITING] > 3) return false;
     if (w[DCMI_W_FRAME] == 0 && (w[DCMI_W_LINES] || w[DCMI_W_PIXELS])) return false;
     *c = (camera){
         .cr = w[DCMI_W_CR], .ris = w[DCMI_W_RIS], .ier = w[DCMI_W_IER], .cwstrt = w[DCMI_W_CWSTRT], .cwsize = w[DCMI_W_CWSIZE],
+        .escr = w[DCMI_W_ESCR], .esur = w[DCMI_W_ESUR], .waiting = w[DCMI_W_WAITING],
         .pins = w[DCMI_W_HSYNC] | w[DCMI_W_VSYNC] << 1 | w[DCMI_W_CLOCK] << 2,
         .blanked = w[DCMI_W_HSYNC_BLANKED] | w[DCMI_W_VSYNC_BLANKED] << 1,
         .frame = (frame_state)w[DCMI_W_FRAME], .lines = w[DCMI_W_LINES], .pixels = w[DCMI_W_PIXELS], .rate = w[DCMI_W_RATE],
@@ -565,4 +712,7 @@ void model_to_image(const camera *c, uint32_t *w)
     w[DCMI_W_LANDED] = c->landed;
     w[DCMI_W_DISCARDED] = c->discarded;
     w[DCMI_W_DEPTH] = c->depth;
+    w[DCMI_W_ESCR] = c->escr;
+    w[DCMI_W_ESUR] = c->esur;
+    w[DCMI_W_WAITING] = c->waiting;
 }

@@ -21,11 +21,12 @@ enum { SLOTS = 32, USUAL_DEPTH = 4 };
 typedef enum { FRAME_CLOSED, FRAME_UNTAKEN, FRAME_TAKEN } frame_state;
 
 typedef struct camera {
-    uint32_t cr, ris, ier, cwstrt, cwsize;
+    uint32_t cr, ris, ier, escr, esur, cwstrt, cwsize;
     uint32_t pins;                /* levels at the last sample: HSYNC, VSYNC, CLOCK */
-    uint32_t blanked;             /* which syncs blanked at the last working edge: HSYNC, VSYNC */
+    uint32_t blanked;             /* which syncs blanked at the last working edge: HSYNC, VSYNC; with ESS 1 which blank by the codes */
+    uint32_t waiting;             /* bytes that may begin a code: of FF 00 00 so many */
     frame_state frame;
-    uint32_t lines, pixels;       /* lines begun in the open frame, pixels of the last one */
+    uint32_t lines, pixels;       /* lines begun in the open frame, pixels of the last one; with ESS 1 bytes that wait in it too */
     uint32_t rate;                /* the rate counter */
     uint32_t data, partial;       /* the partial word: how many data, and their bits */
     uint32_t fifo[SLOTS], held;   /* held words, oldest first, then zeros */

@@ -125,18 +125,18 @@ static const struct {
     { 0, 0, { { OFFSET, 0x0C }, { 9, 0x1F }, { 10, 0 } } },                             /* IER, so that nothing is captured */
     { 7, 0, { { LAST, 0x04 } } },                                                       /* a bad sample, the last */
     { 7, 0, { { MIDDLE, 0x80 } } },                                                     /* one in the middle */
-    { 2, 0, { { OFFSET, 0x18 } } },                                                     /* a refused write */
+    { 2, 0, { { OFFSET, 0x28 } } },                                                     /* a refused write */
     { 3, 0, { { OFFSET, 0x08 } } },
     { 4, 0, { { 11, 0x01 } } },
     { 5, 0, { { 9, 0xEB } } },
-    { 2, 0, { { OFFSET, 0x18 }, { LAST, 0x04 } } },                                     /* a refused write and a bad sample */
+    { 2, 0, { { OFFSET, 0x28 }, { LAST, 0x04 } } },                                     /* a refused write and a bad sample */
     { 13, -1, { { 0, 'F' } } },                                                         /* a byte too few */
     { 13, -29, { { 0, 'F' } } },                                                        /* the header alone */
-    { 13, -1, { { OFFSET, 0x18 } } },                                                   /* and a refused write */
+    { 13, -1, { { OFFSET, 0x28 } } },                                                   /* and a refused write */
     { 13, -1, { { MIDDLE, 0x80 } } },                                                   /* and a bad sample */
-    { 13, -3, { { OFFSET, 0x18 }, { MIDDLE, 0x80 } } },                                 /* and both */
+    { 13, -3, { { OFFSET, 0x28 }, { MIDDLE, 0x80 } } },                                 /* and both */
     { 13, 1, { { 0, 'F' } } },                                                          /* a byte too many */
-    { 13, 7, { { OFFSET, 0x18 }, { LAST, 0x04 } } },                                    /* more, a refused write and a bad sample */
+    { 13, 7, { { OFFSET, 0x28 }, { LAST, 0x04 } } },                                    /* more, a refused write and a bad sample */
     { 10, 0, { { 0, 'f' } } },
     { 10, 0, { { 2, 0x00 }, { VERSION, 9 }, { 7, 0xFF } } },                            /* the mark, the version and the count */
     { 11, 0, { { VERSION, 3 } } },
@@ -193,7 +193,7 @@ static void make_large(size_t count, unsigned wrong)
     do trace_valid(&t, count);
     while (!t.writes.count);
     if (wrong & BAD_SAMPLE) t.samples[chance(1, 2) ? count - 1 : below((uint32_t)count)] |= 0x400000;
-    if (wrong & BAD_WRITE) t.writes.offset[below((uint32_t)t.writes.count)] = 0x18;
+    if (wrong & BAD_WRITE) t.writes.offset[below((uint32_t)t.writes.count)] = 0x28;
     length = trace_file(&t, file);
     random_bytes(file + length, 4096);
     if (wrong & SHORTER) length -= chance(1, 2) ? 1 : between(1, (uint32_t)(3 * count));

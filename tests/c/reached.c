@@ -107,6 +107,168 @@ const char *const call_name[CALLS] = {
     X(W4_CR_RESERVED, "W4: JPEG 1 refused 4, a reserved bit and nothing else") \
     X(W4_CR_SET, "W4: JPEG 0 to 1 while enabled, and nothing else, refused 6") \
     X(W4_CR_CLEAR, "W4: JPEG 1 to 0 while enabled, and nothing else, refused 6") \
+    X(W6_CODE, "W6: a code in a line of a taken frame, none of its bytes captured") \
+    X(W6_CODE_OUTSIDE, "W6: a code outside a line") \
+    X(W6_CODE_FF, "W6: FF 00 00 FF is a code, and its last byte does not wait") \
+    X(W6_CODE_NOTHING, "W6: a code that matches no delimiter in a line, nothing happens") \
+    X(W6_CODE_NOTHING_LOST, "W6: while only a frame start counts, one that matches none") \
+    X(W6_CODE_PIXELS, "W6: a code in a line takes its three bytes out of the pixels") \
+    X(W6_CODE_FEW, "W6: a code in a line with fewer than three pixels, 0 are left") \
+    X(W6_WAIT_1, "W6: FF begins to wait, nothing is captured") \
+    X(W6_WAIT_2, "W6: 00 waits after FF") \
+    X(W6_WAIT_3, "W6: 00 waits after FF 00") \
+    X(W6_WAIT_OUTSIDE, "W6: FF begins to wait outside a line") \
+    X(W6_WAIT_NO_EDGE, "W6: bytes wait on through a sample without a working edge") \
+    X(W6_WAIT_ESS_0, "W6: ESS 0: a number of waiting bytes stays at a working edge") \
+    X(W6_DATUM, "W6: a byte is captured at once") \
+    X(W6_DATUM_UPPER, "W6: a byte is captured, the data bits above it are not 0") \
+    X(W6_DATUM_PINS, "W6: a byte is captured while both pins are at their polarity") \
+    X(W6_00, "W6: 00 with none waiting is captured") \
+    X(W6_FF_X, "W6: FF x gives FF, x") \
+    X(W6_FF_00_X, "W6: FF 00 x gives FF, 00, x") \
+    X(W6_FF_FF, "W6: FF FF releases the first, the second waits") \
+    X(W6_FF_00_FF, "W6: FF 00 FF releases two, the last waits") \
+    X(W6_RELEASED_OUTSIDE, "W6: released outside a line, nothing is captured") \
+    X(W6_RELEASED_UNTAKEN, "W6: released in a line of an untaken frame, nothing is captured") \
+    X(W6_FULL_1, "W6: the first of three released fills a word") \
+    X(W6_FULL_2, "W6: the second of three released fills a word") \
+    X(W6_FULL_3, "W6: the third of three released fills a word") \
+    X(W6_LOST_1, "W6: the first of three released overruns, the others find no frame") \
+    X(W6_LOST_2, "W6: the second of three released overruns") \
+    X(W6_LOST_3, "W6: the third of three released overruns") \
+    X(W6_LOST_WAITS, "W6: released bytes overrun, an FF that came then waits on") \
+    X(W6_LOST_SNAPSHOT, "W6: overrun, CM 1, CAPTURE cleared") \
+    X(W6_LOST_NO_FLAG, "W6: overrun, neither VSYNC nor LINE nor ERR raised") \
+    X(W6_LOST_ORDER, "W6: overrun, from then on only a frame start counts") \
+    X(W6_INSIDE, "W6: CROP 1: released bytes are all in the window") \
+    X(W6_ENTERS, "W6: CROP 1: of released bytes the first are before the window") \
+    X(W6_LEAVES, "W6: CROP 1: of released bytes the last are behind the window") \
+    X(W6_OTHER_LINE, "W6: CROP 1: a byte of a line that is not in the window") \
+    X(W6_NO_LINES, "W6: CROP 1: with no line begun a byte of an open line is in line 0") \
+    X(W6_COLUMN_0, "W6: CROP 1: a byte that waited beyond the pixels is in column 0") \
+    X(W6_FE_MASKED, "W6: a frame end that differs from FEC in masked bits") \
+    X(W6_FS_MASKED, "W6: a frame start that differs from FSC in masked bits") \
+    X(W6_LE_MASKED, "W6: a line end that differs from LEC in masked bits") \
+    X(W6_LS_MASKED, "W6: a line start that differs from LSC in masked bits") \
+    X(W6_UNMASK_0, "W6: a delimiter with unmask 0 is matched") \
+    X(W6_FE_FS, "W6: frame end and frame start match: a frame end") \
+    X(W6_FE_LE, "W6: frame end and line end match: a frame end") \
+    X(W6_FE_LS, "W6: frame end and line start match: a frame end") \
+    X(W6_FS_LE, "W6: frame start and line end match: a frame start") \
+    X(W6_FS_LS, "W6: frame start and line start match: a frame start") \
+    X(W6_LE_LS, "W6: line end and line start match: a line end") \
+    X(W6_FEC_FF, "W6: FEC 0xFF: a code that matches no other ends a frame") \
+    X(W6_FEC_FF_MASKED, "W6: FEC 0xFF: so does one that differs from it in unmask bits") \
+    X(W6_FEC_FF_OTHER, "W6: FEC 0xFF: one that agrees with it and another is the other") \
+    X(W6_FSC_FF, "W6: FSC 0xFF: a line start after a frame end starts the frame") \
+    X(W6_FSC_FF_XY, "W6: FSC 0xFF: XY FF is no frame start") \
+    X(W6_FSC_FF_MASKED, "W6: FSC 0xFF: with unmask 0 neither") \
+    X(W6_LEC_FF, "W6: LEC 0xFF: XY FF is a line end") \
+    X(W6_LSC_FF, "W6: LSC 0xFF: XY FF is a line start") \
+    X(W6_START, "W6: a frame start opens a taken frame and its line 0, CM 0") \
+    X(W6_START_SNAPSHOT, "W6: a frame start, CM 1") \
+    X(W6_START_RATE, "W6: a frame start, untaken by FCRC") \
+    X(W6_START_UP, "W6: a frame start, the rate counter goes up") \
+    X(W6_START_WRAP, "W6: a frame start, the rate counter wraps") \
+    X(W6_START_CAPTURE_0, "W6: a frame start with CAPTURE 0: open, not taken, no counting") \
+    X(W6_START_CAPTURE_0_CM, "W6: so with CM 1") \
+    X(W6_START_ORDER, "W6: a frame start where only one counts") \
+    X(W6_NEXT_LINE, "W6: a line start opens the next line") \
+    X(W6_NEXT_PARTIAL, "W6: a line start, a partial word stays") \
+    X(W6_ACROSS, "W6: packing runs on in the next line") \
+    X(W6_EMPTY_LINE, "W6: a line of no bytes ends and counts") \
+    X(W6_BETWEEN, "W6: a byte between lines is no pixel and counts nowhere") \
+    X(W6_LINE_END, "W6: a line end closes a line, LINE raised, VSYNC not") \
+    X(W6_LINE_END_0, "W6: a line end with CAPTURE 0, LINE stays 0") \
+    X(W6_LINE_END_UNTAKEN, "W6: a line end in an untaken frame with CAPTURE 1, LINE raised") \
+    X(W6_END_LINE, "W6: a frame end in a line, VSYNC and LINE raised") \
+    X(W6_END_BETWEEN, "W6: a frame end between lines, VSYNC raised, LINE not") \
+    X(W6_END_0, "W6: a frame end with CAPTURE 0, neither raised") \
+    X(W6_END_UNTAKEN, "W6: the end of an untaken frame, CAPTURE 1, VSYNC raised, FRAME not") \
+    X(W6_END_FRAME, "W6: the end of a taken frame, CROP 0, CM 0, FRAME raised") \
+    X(W6_END_SNAPSHOT, "W6: CM 1: VSYNC and FRAME raised and CAPTURE cleared at once") \
+    X(W6_END_FRAME_0, "W6: FRAME raised with CAPTURE 0") \
+    X(W6_END_PARTIAL, "W6: a frame end drops a partial word") \
+    X(W6_END_HELD, "W6: a frame end leaves held words") \
+    X(W6_END_NONE, "W6: a frame end outside a frame does nothing") \
+    X(W6_ERR_LS_LINE, "W6: a line start in an open line: ERR") \
+    X(W6_ERR_LS_OUTSIDE, "W6: a line start outside a frame: ERR") \
+    X(W6_ERR_LE_BETWEEN, "W6: a line end between lines: ERR") \
+    X(W6_ERR_LE_OUTSIDE, "W6: a line end outside a frame: ERR") \
+    X(W6_ERR_FS_LINE, "W6: a frame start in a line: ERR, no frame starts") \
+    X(W6_ERR_FS_BETWEEN, "W6: a frame start between lines: ERR, no frame starts") \
+    X(W6_ERR_HELD, "W6: ERR discards held words, in a frame") \
+    X(W6_ERR_HELD_OUTSIDE, "W6: ERR discards held words, between frames") \
+    X(W6_ERR_PARTIAL, "W6: ERR drops a partial word") \
+    X(W6_ERR_FRAME, "W6: ERR closes a taken frame, FRAME stays 0") \
+    X(W6_ERR_UNTAKEN, "W6: ERR in an untaken frame") \
+    X(W6_ERR_CAPTURE_0, "W6: ERR with CAPTURE 0") \
+    X(W6_ERR_SNAPSHOT, "W6: ERR with CM 1 in a frame, CAPTURE stays 1") \
+    X(W6_ERR_FLAGS, "W6: ERR in a line, neither VSYNC nor LINE raised") \
+    X(W6_ERR_RATE, "W6: ERR leaves a rate counter above 0") \
+    X(W6_ERR_AGAIN, "W6: ERR where ERR is 1 already") \
+    X(W6_ERR_LANDED, "W6: ERR in a sample whose grant landed a word") \
+    X(W6_ERR_NO_ANSWER, "W6: ERR counts no word as completed") \
+    X(W6_LOST_LS, "W6: while only a frame start counts, a line start does nothing") \
+    X(W6_LOST_LE, "W6: while only a frame start counts, a line end does nothing") \
+    X(W6_LOST_FE, "W6: while only a frame start counts, a frame end does nothing") \
+    X(W6_LOST_HELD, "W6: there held words stay") \
+    X(W6_LOST_ERR_1, "W6: there, with ERR 1, a code does nothing") \
+    X(W6_LOST_OVR_1, "W6: there, with OVR 1, a code does nothing") \
+    X(W6_FF_FE, "W6: FSC 0xFF: there a frame end counts, and raises nothing") \
+    X(W6_FF_LS, "W6: FSC 0xFF: there a line start does nothing") \
+    X(W6_FF_LE, "W6: FSC 0xFF: there a line end does nothing") \
+    X(W6_FF_ERR, "W6: FSC 0xFF: after a frame end a line end outside a frame is ERR") \
+    X(W6_FF_NEXT, "W6: FSC 0xFF: the second line start of a frame opens its next line") \
+    X(W6_EARLY, "W6: W1: FRAME at the line end code of the window's last line") \
+    X(W6_EARLY_SNAPSHOT, "W6: W1: FRAME there, CM 1, CAPTURE stays 1") \
+    X(W6_EARLY_CAPTURE_0, "W6: W1: FRAME there, CAPTURE 0, LINE stays 0") \
+    X(W6_EARLY_NOTHING, "W6: W1: FRAME there, nothing was captured") \
+    X(W6_EARLY_STAYS, "W6: W1: FRAME there, partial word and held words stay") \
+    X(W6_EARLIER, "W6: W1: an earlier line ends, FRAME stays 0") \
+    X(W6_LATER, "W6: W1: a later line ends, FRAME is 0 and not raised again") \
+    X(W6_EARLY_UNTAKEN, "W6: W1: the last line of an untaken frame ends, FRAME stays 0") \
+    X(W6_CROP_END_RUNS, "W6: W1: a frame end closes the window's last line, FRAME raised") \
+    X(W6_CROP_END_BEFORE, "W6: W1: a frame end before that line, FRAME raised") \
+    X(W6_CROP_END_AFTER, "W6: W1: a frame end after that line, FRAME is 0, not raised again") \
+    X(W6_CROP_END_SNAPSHOT, "W6: W1: there CAPTURE of a snapshot is cleared") \
+    X(W6_SR_LINE, "W6: SR 0 in a line, the pins blank") \
+    X(W6_SR_BETWEEN, "W6: SR 1 between lines, the pins say otherwise") \
+    X(W6_SR_OUTSIDE, "W6: SR 3 outside a frame, no pin blanks") \
+    X(W6_SR_DISABLED, "W6: SR 3 while disabled, no pin blanks") \
+    X(W6_SR_ESS_0, "W6: ESS 0: SR shows the pins, not what codes would have said") \
+    X(W6_PINS, "W6: the pins are remembered at a working edge") \
+    X(W6_DISABLE, "W6: ENABLE falls, bytes that waited are dropped") \
+    X(W6_DISABLE_LINE, "W6: ENABLE falls in a line, no flag raised") \
+    X(W6_ENABLE, "W6: ENABLE rises with ESS 1, no bytes wait, order is not checked") \
+    X(W6_ENABLE_IMAGE, "W6: ENABLE rises, bytes that waited while disabled are dropped") \
+    X(W6_RISES_INSIDE, "W6: CAPTURE rises in a frame with ESS 1, the rate counter stays") \
+    X(W6_ESCR, "W6: ESCR changed") \
+    X(W6_ESUR, "W6: ESUR changed") \
+    X(W6_ESCR_READ, "W6: ESCR read, not 0") \
+    X(W6_ESUR_READ, "W6: ESUR read, not 0") \
+    X(W6_ESCR_ENABLED, "W6: ESCR written while enabled, refused 6") \
+    X(W6_ESUR_ENABLED, "W6: ESUR written while enabled, refused 6") \
+    X(W6_ESCR_SAME, "W6: ESCR written while enabled with its value, refused 6") \
+    X(W6_ESUR_SAME, "W6: ESUR written while enabled with its value, refused 6") \
+    X(W6_CR, "W6: CR 0x10 accepted") \
+    X(W6_CR_ENABLED, "W6: ESS 1 accepted with ENABLE and CAPTURE") \
+    X(W6_CR_CROP, "W6: ESS 1 accepted, CROP 1") \
+    X(W6_CR_SNAPSHOT, "W6: ESS 1 accepted, CM 1") \
+    X(W6_CR_RATE, "W6: ESS 1 accepted, FCRC 1 or 2") \
+    X(W6_CR_BACK, "W6: ESS 1 to 0 while disabled, with EDM or JPEG set") \
+    X(W6_CR_EDM_1, "W6: ESS 1 refused 5, EDM 1 and nothing else") \
+    X(W6_CR_EDM_2, "W6: ESS 1 refused 5, EDM 2 and nothing else") \
+    X(W6_CR_EDM_3, "W6: ESS 1 refused 5, EDM 3 and nothing else") \
+    X(W6_CR_JPEG, "W6: ESS 1 refused 5, JPEG 1 and nothing else") \
+    X(W6_CR_SET, "W6: ESS 0 to 1 while enabled, and nothing else, refused 6") \
+    X(W6_CR_CLEAR, "W6: ESS 1 to 0 while enabled, and nothing else, refused 6") \
+    X(W6_OFF_WAITING, "W6: a disabled device with bytes waiting is well-formed") \
+    X(W6_ERR_RUN, "W6: ERR inside a run") \
+    X(W6_ERR_FILE, "W6: ERR inside a file") \
+    X(W6_FRAME_RUN, "W6: a frame end with FRAME raised inside a run") \
+    X(W6_FRAME_FILE, "W6: a frame end with FRAME raised inside a file") \
+    X(W6_FRAME_FILE_2, "W6: a frame end with FRAME raised inside a file of version 2") \
     X(R5_TAKEN, "rule 5: start of a taken frame, CM 0") \
     X(R5_UNTAKEN, "rule 5: start of an untaken frame") \
     X(R5_SNAPSHOT, "rule 5: start of a taken frame, CM 1") \
@@ -181,6 +343,7 @@ const char *const call_name[CALLS] = {
     X(NO_LEVEL, "image: a pin level above 1, and nothing else") \
     X(NO_BLANK, "image: a remembered blanking above 1, and nothing else") \
     X(NO_FRAME, "image: frame above 2, and nothing else") \
+    X(NO_WAITING, "W6: image: more than 3 bytes wait, and nothing else") \
     X(NO_LINES, "image: lines in a closed frame, and nothing else") \
     X(NO_PIXELS, "image: pixels in a closed frame, and nothing else") \
     X(M_DEPTH_0, "malformed: depth 0, and nothing else") \
@@ -214,6 +377,9 @@ const char *const call_name[CALLS] = {
     X(M_JPEG_EDM_2, "W4: malformed: JPEG 1 with EDM 2, and nothing else") \
     X(M_JPEG_EDM_3, "W4: malformed: JPEG 1 with EDM 3, and nothing else") \
     X(M_JPEG_ESS, "W4: malformed: JPEG 1 with ESS 1, and nothing else") \
+    X(M_ESS_EDM_1, "W6: malformed: ESS 1 with EDM 1, and nothing else") \
+    X(M_ESS_EDM_2, "W6: malformed: ESS 1 with EDM 2, and nothing else") \
+    X(M_ESS_EDM_3, "W6: malformed: ESS 1 with EDM 3, and nothing else") \
     X(FILE_WRITE, "file: version 1, a write refused after an accepted one") \
     X(FILE_WRITE_2, "W7: file: version 2, a write refused after an accepted one") \
     X(AT_WRITE, "item: version 1, a write") \
@@ -255,6 +421,10 @@ typedef enum { BRANCHES(BRANCH_NAME) BRANCH_COUNT } branch;
     X(T_PAD_OVERRUN, "W4: padded and lost, CM 0, CAPTURE stays") \
     X(T_PAD_OVERRUN_SNAPSHOT, "W4: padded and lost, CM 1, CAPTURE cleared") \
     X(T_PAD_FULL, "W4: frame end with the FIFO full, no byte left over, FRAME raised") \
+    X(T_CODE_HELD, "W6: a word of released bytes held, as the first to the 32nd") \
+    X(T_CODE_OVERRUN, "W6: released bytes overrun, CM 0") \
+    X(T_CODE_OVERRUN_SNAPSHOT, "W6: released bytes overrun, CM 1") \
+    X(T_ERR, "W6: ERR discards the held words, for each number held") \
     X(T_DISABLE, "CR: ENABLE falls with the FIFO full, all discarded") \
     X(T_RESET, "dcmi_reset_depth accepted, over a device in use") \
     X(T_WRITE, "dcmi_write accepted") \
@@ -317,6 +487,266 @@ static inline void seen_at(bool holds, table which, uint32_t number)
 
 static inline uint32_t fcrc(uint32_t cr) { return cr >> 8 & 3; }
 static inline uint32_t edm(uint32_t cr) { return cr >> 10 & 3; }
+
+/* ---- one sample with codes, W6 ---- */
+
+typedef enum { NONE, ENDS, STARTS, LINE_ENDS, LINE_STARTS } meaning;
+
+/* Which delimiters a byte agrees with on their unmask bits: of ESCR the bytes FSC, LSC, LEC, FEC are bits 0 to 3. */
+static uint32_t agrees(const camera *c, uint32_t xy)
+{
+    uint32_t which = 0;
+    for (unsigned i = 0; i < 4; i++) {
+        const uint32_t differs = (xy ^ c->escr >> 8 * i) & 0xFF, unmask = c->esur >> 8 * i & 0xFF;
+        which |= (uint32_t)((differs & unmask) == 0) << i;
+    }
+    return which;
+}
+
+enum { FSC = 1 << 0, LSC = 1 << 1, LEC = 1 << 2, FEC = 1 << 3 };
+
+/* FSC and FEC of 0xFF match by no bits. */
+static uint32_t matched(const camera *c, uint32_t xy)
+{
+    const uint32_t never = ((c->escr & 0xFF) == 0xFF ? FSC : 0) | (c->escr >> 24 == 0xFF ? FEC : 0);
+    return agrees(c, xy) & ~never;
+}
+
+static meaning meant(const camera *c, uint32_t xy)
+{
+    const uint32_t which = matched(c, xy);
+    if (which & FEC) return ENDS;
+    if (which & FSC) return STARTS;
+    if (which & LEC) return LINE_ENDS;
+    if (which & LSC) return LINE_STARTS;
+    return c->escr >> 24 == 0xFF ? ENDS : NONE;
+}
+
+static bool same_but_pins(const camera *before, const camera *after)
+{
+    return before->frame == after->frame && before->blanked == after->blanked && before->ris == after->ris && before->cr == after->cr
+        && before->lines == after->lines && before->data == after->data && before->partial == after->partial && before->rate == after->rate
+        && before->discarded == after->discarded && before->completed == after->completed;
+}
+
+/* Which delimiter a code was taken for, told from what it did: those that the byte matched, and their masked bits. */
+static void reached_matching(const camera *before, uint32_t xy, meaning m)
+{
+    const uint32_t which = matched(before, xy), all = agrees(before, xy), fe = before->escr >> 24, le = before->escr >> 16 & 0xFF;
+    const uint32_t ls = before->escr >> 8 & 0xFF, fs = before->escr & 0xFF;
+    const bool fe_ff = fe == 0xFF, fs_ff = fs == 0xFF;
+    seen(m == ENDS && !fe_ff && xy != fe, W6_FE_MASKED);
+    seen(m == STARTS && xy != fs, W6_FS_MASKED);
+    seen(m == LINE_ENDS && xy != le, W6_LE_MASKED);
+    seen(m == LINE_STARTS && xy != ls, W6_LS_MASKED);
+    for (unsigned i = 0; i < 4; i++) seen((which >> i & 1) && !(before->esur >> 8 * i & 0xFF), W6_UNMASK_0);
+    seen((which & FEC) && (which & FSC), W6_FE_FS);
+    seen((which & FEC) && (which & LEC), W6_FE_LE);
+    seen((which & FEC) && (which & LSC), W6_FE_LS);
+    seen(m == STARTS && (which & LEC), W6_FS_LE);
+    seen(m == STARTS && (which & LSC), W6_FS_LS);
+    seen(m == LINE_ENDS && (which & LSC), W6_LE_LS);
+    seen(m == ENDS && fe_ff, W6_FEC_FF);
+    seen(m == ENDS && fe_ff && !(all & FEC), W6_FEC_FF_MASKED);
+    seen(m != ENDS && fe_ff && (all & FEC), W6_FEC_FF_OTHER);
+    seen(fs_ff && xy == 0xFF && m != STARTS, W6_FSC_FF_XY);
+    seen(fs_ff && !(before->esur & 0xFF) && m != STARTS, W6_FSC_FF_MASKED);
+    seen(m == LINE_ENDS && le == 0xFF && xy == 0xFF, W6_LEC_FF);
+    seen(m == LINE_STARTS && ls == 0xFF && xy == 0xFF, W6_LSC_FF);
+}
+
+/* A code that opens a frame. */
+static void reached_code_start(const camera *before, const camera *after, bool by_line)
+{
+    const bool capture = before->cr & CAPTURE, cm = before->cr & CM, line_0 = after->lines == 1 && !after->pixels && !after->blanked;
+    const bool stays = after->rate == before->rate, ordered = before->blanked & VSYNC;
+    if (after->frame == FRAME_CLOSED || !line_0) return;
+    seen(by_line, W6_FSC_FF);
+    seen(after->frame == FRAME_TAKEN && !cm && !by_line, W6_START);
+    seen(after->frame == FRAME_TAKEN && cm && stays, W6_START_SNAPSHOT);
+    seen(after->frame == FRAME_UNTAKEN && capture, W6_START_RATE);
+    seen(after->rate > before->rate, W6_START_UP);
+    seen(after->rate < before->rate, W6_START_WRAP);
+    seen(after->frame == FRAME_UNTAKEN && !capture && !cm && stays && fcrc(before->cr), W6_START_CAPTURE_0);
+    seen(after->frame == FRAME_UNTAKEN && !capture && cm && stays, W6_START_CAPTURE_0_CM);
+    seen(!by_line && !ordered, W6_START_ORDER);
+}
+
+/* A line end in a line, or a frame end in a frame, which closed it. Lines of the window: told from how many had begun. */
+static void reached_code_end(const camera *before, const camera *after, bool line, meaning m)
+{
+    const uint32_t raised = after->ris & ~before->ris, syncs = F_VSYNC | F_LINE, last = (before->cwstrt >> 16) + (before->cwsize >> 16) + 1;
+    const bool capture = before->cr & CAPTURE, taken = before->frame == FRAME_TAKEN, crop = before->cr & CROP, cm = before->cr & CM;
+    const bool stays_0 = !((before->ris | after->ris) & F_FRAME), none = !((before->ris | after->ris) & syncs), cleared = before->cr & ~after->cr & CAPTURE;
+    const bool runs = line && before->lines == last, behind = before->lines > last || (before->lines == last && !line);
+    const bool same = after->data == before->data && after->partial == before->partial && after->held == before->held;
+    if (m == LINE_ENDS) {
+        const bool ended = line && after->frame == before->frame && after->blanked == HSYNC, early = taken && crop && runs && (raised & F_FRAME);
+        seen(ended && capture && (raised & syncs) == F_LINE, W6_LINE_END);
+        seen(ended && !capture && none, W6_LINE_END_0);
+        seen(ended && capture && !taken && (raised & F_LINE), W6_LINE_END_UNTAKEN);
+        seen(ended && before->pixels == 3 && !after->pixels && after->lines == before->lines, W6_EMPTY_LINE);
+        seen(early && !cm, W6_EARLY);
+        seen(early && cm && capture && !cleared, W6_EARLY_SNAPSHOT);
+        seen(early && !capture && !(raised & F_LINE), W6_EARLY_CAPTURE_0);
+        seen(early && !before->data && before->cwsize >> 16 == 0 && before->pixels <= (before->cwstrt & 0x3FFF), W6_EARLY_NOTHING);
+        seen(early && before->data && before->held && same, W6_EARLY_STAYS);
+        seen(ended && taken && crop && before->lines < last && stays_0, W6_EARLIER);
+        seen(ended && taken && crop && before->lines > last && stays_0, W6_LATER);
+        seen(ended && !taken && crop && runs && stays_0, W6_EARLY_UNTAKEN);
+        return;
+    }
+    if (after->frame != FRAME_CLOSED || after->blanked != (HSYNC | VSYNC) || after->data) return;
+    seen(capture && line && (raised & syncs) == syncs, W6_END_LINE);
+    seen(capture && !line && (raised & F_VSYNC) && !(raised & F_LINE), W6_END_BETWEEN);
+    seen(!capture && none, W6_END_0);
+    seen(!taken && capture && (raised & F_VSYNC) && stays_0, W6_END_UNTAKEN);
+    seen(taken && !crop && !cm && (raised & F_FRAME), W6_END_FRAME);
+    seen((raised & F_VSYNC) && (raised & F_FRAME) && cleared, W6_END_SNAPSHOT);
+    seen(taken && !capture && (raised & F_FRAME), W6_END_FRAME_0);
+    seen(before->data && after->completed == before->completed, W6_END_PARTIAL);
+    seen(before->held && after->discarded == before->discarded, W6_END_HELD);
+    if (!taken || !crop) return;
+    seen(runs && (raised & F_FRAME), W6_CROP_END_RUNS);
+    seen(before->lines < last && (raised & F_FRAME), W6_CROP_END_BEFORE);
+    seen(behind && stays_0, W6_CROP_END_AFTER);
+    seen(behind && cleared, W6_CROP_END_SNAPSHOT);
+}
+
+/* A code that is out of order: where, and what is gone. */
+static void reached_code_error(const camera *before, const camera *after, bool line, meaning m)
+{
+    const bool open = before->frame != FRAME_CLOSED, capture = before->cr & CAPTURE, by_line = (before->escr & 0xFF) == 0xFF;
+    const bool closed = (after->ris & F_ERR) && after->frame == FRAME_CLOSED && !after->blanked && !after->data && !after->partial && !after->held;
+    const uint32_t raised = after->ris & ~before->ris;
+    if (!closed) return;
+    seen(m == LINE_STARTS && line, W6_ERR_LS_LINE);
+    seen(m == LINE_STARTS && !open && !by_line, W6_ERR_LS_OUTSIDE);
+    seen(m == LINE_ENDS && open && !line, W6_ERR_LE_BETWEEN);
+    seen(m == LINE_ENDS && !open, W6_ERR_LE_OUTSIDE);
+    seen(m == LINE_ENDS && !open && by_line, W6_FF_ERR);
+    seen(m == STARTS && line, W6_ERR_FS_LINE);
+    seen(m == STARTS && open && !line, W6_ERR_FS_BETWEEN);
+    seen(open && after->discarded - before->discarded == before->held && before->held, W6_ERR_HELD);
+    seen(!open && after->discarded - before->discarded == before->held && before->held, W6_ERR_HELD_OUTSIDE);
+    seen_at(after->discarded - before->discarded == before->held, T_ERR, before->held);
+    seen(before->data, W6_ERR_PARTIAL);
+    seen(before->frame == FRAME_TAKEN && !((before->ris | after->ris) & F_FRAME), W6_ERR_FRAME);
+    seen(before->frame == FRAME_UNTAKEN, W6_ERR_UNTAKEN);
+    seen(!capture && after->cr == before->cr, W6_ERR_CAPTURE_0);
+    seen(open && capture && (before->cr & CM) && after->cr == before->cr, W6_ERR_SNAPSHOT);
+    seen(line && capture && raised == F_ERR, W6_ERR_FLAGS);
+    seen(before->rate && after->rate == before->rate, W6_ERR_RATE);
+    seen(before->ris & F_ERR, W6_ERR_AGAIN);
+    seen(after->landed != before->landed, W6_ERR_LANDED);
+    seen(before->data == 3 && after->completed == before->completed, W6_ERR_NO_ANSWER);
+}
+
+/* A code where only a frame start counts, or, with FSC 0xFF, a frame end: after enabling, ERR or overrun. */
+static void reached_code_lost(const camera *before, const camera *after, meaning m)
+{
+    const bool by_line = (before->escr & 0xFF) == 0xFF, same = same_but_pins(before, after);
+    seen(m == STARTS && after->frame != FRAME_CLOSED, W6_START_ORDER);
+    seen(m == NONE && same, W6_CODE_NOTHING_LOST);
+    seen(m == LINE_STARTS && same, by_line ? W6_FF_LS : W6_LOST_LS);
+    seen(m == LINE_ENDS && same, by_line ? W6_FF_LE : W6_LOST_LE);
+    seen(m == ENDS && !by_line && same, W6_LOST_FE);
+    seen(m == ENDS && by_line && after->blanked == (HSYNC | VSYNC) && after->ris == before->ris && after->frame == FRAME_CLOSED, W6_FF_FE);
+    seen((m == LINE_STARTS || m == LINE_ENDS) && same && before->held, W6_LOST_HELD);
+    seen((m == LINE_STARTS || m == LINE_ENDS) && same && (before->ris & F_ERR), W6_LOST_ERR_1);
+    seen((m == LINE_STARTS || m == LINE_ENDS) && same && (before->ris & F_OVR), W6_LOST_OVR_1);
+}
+
+/* The last byte of a code. */
+static void reached_code(const camera *before, uint32_t xy, const camera *after)
+{
+    const bool open = before->frame != FRAME_CLOSED, line = open && !(before->blanked & HSYNC), by_line = (before->escr & 0xFF) == 0xFF;
+    const bool captured = after->completed != before->completed || after->data > before->data;
+    const meaning m = meant(before, xy);
+    seen(line && before->frame == FRAME_TAKEN && !captured && !after->waiting, W6_CODE);
+    seen(!line && !after->waiting, W6_CODE_OUTSIDE);
+    seen(xy == 0xFF && !after->waiting, W6_CODE_FF);
+    seen(m == NONE && line && same_but_pins(before, after), W6_CODE_NOTHING);
+    seen(line && before->pixels > 3 && after->pixels == before->pixels - 3, W6_CODE_PIXELS);
+    seen(line && before->pixels < 3 && after->frame != FRAME_CLOSED && !after->pixels, W6_CODE_FEW);
+    reached_matching(before, xy, m);
+    if (!open && !(before->blanked & VSYNC)) {
+        reached_code_lost(before, after, m);
+        if (m == STARTS) reached_code_start(before, after, false);
+        return;
+    }
+    seen(m == ENDS && !open && same_but_pins(before, after), W6_END_NONE);
+    const bool starts = !open && (m == STARTS || (m == LINE_STARTS && by_line)), next = m == LINE_STARTS && open && !line;
+    if (starts) reached_code_start(before, after, m == LINE_STARTS);
+    else if (next) {
+        seen(after->lines == before->lines + 1 && !after->pixels && !after->blanked, W6_NEXT_LINE);
+        seen(by_line && after->lines == 2 && after->frame == before->frame, W6_FF_NEXT);
+        seen(before->data && after->data == before->data && after->partial == before->partial, W6_NEXT_PARTIAL);
+    } else if ((m == ENDS && open) || (m == LINE_ENDS && line)) reached_code_end(before, after, line, m);
+    else if (m != NONE && m != ENDS) reached_code_error(before, after, line, m);
+}
+
+/* Bytes that are released in a line of a taken frame, so many; with CROP 1 their columns. */
+static void reached_released(const camera *before, uint32_t byte, const camera *after, uint32_t released)
+{
+    const bool waits = byte == 0xFF, full = after->completed != before->completed, lost = after->discarded != before->discarded && full;
+    const bool crop = before->cr & CROP, three = released == 3;
+    const uint32_t filled_by = 4 - before->data, kept = full ? before->data + released - 4 : after->data - before->data;
+    const uint32_t first_column = before->cwstrt & 0x3FFF, last_column = first_column + (before->cwsize & 0x3FFF), first_line = before->cwstrt >> 16;
+    const uint32_t line = before->lines ? before->lines - 1 : 0, column = before->pixels < before->waiting ? 0 : before->pixels - before->waiting;
+    const bool all = full ? lost || after->data == (before->data + released) % 4 : after->data == before->data + released;
+    const bool in_lines = first_line <= line && line <= first_line + (before->cwsize >> 16);
+    seen(all && before->waiting == 0 && byte == 0, W6_00);
+    seen(all && before->waiting == 0, W6_DATUM);
+    seen(all && before->waiting == 1 && !waits, W6_FF_X);
+    seen(all && before->waiting == 2 && !waits, W6_FF_00_X);
+    seen(all && before->waiting == 1 && waits && after->waiting == 1, W6_FF_FF);
+    seen(all && before->waiting == 2 && waits && after->waiting == 1, W6_FF_00_FF);
+    for (uint32_t i = 1; i <= 3; i++) {
+        seen(three && !crop && full && !lost && filled_by == i && after->data == 3 - i, W6_FULL_1 + (i - 1));
+        seen(three && !crop && lost && filled_by == i && !after->data && !after->partial && after->frame == FRAME_CLOSED, W6_LOST_1 + (i - 1));
+    }
+    seen(lost && waits && after->waiting == 1, W6_LOST_WAITS);
+    seen(lost && (before->cr & ~after->cr & CAPTURE), W6_LOST_SNAPSHOT);
+    seen(lost && (after->ris & ~before->ris) == F_OVR, W6_LOST_NO_FLAG);
+    seen(lost && after->frame == FRAME_CLOSED && after->blanked == before->blanked && !(after->blanked & VSYNC), W6_LOST_ORDER);
+    seen_at(lost && !(before->cr & CM), T_CODE_OVERRUN, before->depth);
+    seen_at(lost && (before->cr & CM), T_CODE_OVERRUN_SNAPSHOT, before->depth);
+    seen_at(full && !lost, T_CODE_HELD, after->held);
+    if (!crop || full) return;
+    seen(!before->lines && kept, W6_NO_LINES);
+    seen(before->pixels < before->waiting && kept == released && !first_column, W6_COLUMN_0);
+    seen(in_lines && kept == released && released > 1, W6_INSIDE);
+    seen(in_lines && column < first_column && kept && kept < released, W6_ENTERS);
+    seen(in_lines && column <= last_column && column >= first_column && kept && kept < released, W6_LEAVES);
+    seen(!in_lines && !kept, W6_OTHER_LINE);
+}
+
+/* A working edge with ENABLE and ESS 1. */
+static void reached_byte(const camera *before, uint32_t sample, const camera *after)
+{
+    const uint32_t byte = sample & 0xFF, waiting = before->waiting;
+    const bool open = before->frame != FRAME_CLOSED, line = open && !(before->blanked & HSYNC);
+    const bool captured = after->completed != before->completed || after->data != before->data;
+    const bool blank = (sample >> 14 & 3) == (before->cr >> 6 & 3);
+    seen(after->pins == (sample >> 14 & 7) && (before->pins ^ after->pins) & (HSYNC | VSYNC), W6_PINS);
+    if (waiting == 3) {
+        reached_code(before, byte, after);
+        return;
+    }
+    const bool waits = byte == (waiting ? 0x00 : 0xFF);
+    const uint32_t released = waits ? 0 : waiting + (byte != 0xFF);
+    seen(waits && line && !captured && after->waiting == waiting + 1 && after->pixels == before->pixels + 1, W6_WAIT_1 + waiting);
+    seen(waits && !line && !waiting && after->waiting == 1, W6_WAIT_OUTSIDE);
+    seen(!line && released && waiting && !captured && after->pixels == before->pixels, W6_RELEASED_OUTSIDE);
+    seen(open && !line && released && !captured && after->pixels == before->pixels && after->lines == before->lines, W6_BETWEEN);
+    seen(line && before->frame == FRAME_UNTAKEN && released && !captured && after->pixels == before->pixels + 1, W6_RELEASED_UNTAKEN);
+    if (!line || before->frame != FRAME_TAKEN || !released) return;
+    seen(captured && !waiting && sample >> 8 & 0x3F && after->data > before->data && after->partial >> 8 * before->data == byte, W6_DATUM_UPPER);
+    seen(captured && blank, W6_DATUM_PINS);
+    seen(captured && before->data && before->lines > 1 && before->pixels == waiting, W6_ACROSS);
+    reached_released(before, byte, after, released);
+}
 
 /* ---- one sample ---- */
 
@@ -515,7 +945,11 @@ static void reached_sample(const camera *before, uint32_t sample, const camera *
     seen(edge && right && !enabled, R2_DISABLED);
     seen(edge && right && enabled && high, R2_ROSE);
     seen(edge && right && enabled && !high, R2_FELL);
-    if (edge && right && enabled) reached_edge(before, sample, after);
+    const bool works = edge && right && enabled;
+    seen(!works && before->waiting && (before->cr & ESS) && enabled && after->waiting == before->waiting, W6_WAIT_NO_EDGE);
+    seen(works && before->waiting && !(before->cr & ESS) && after->waiting == before->waiting, W6_WAIT_ESS_0);
+    if (works && (before->cr & ESS)) reached_byte(before, sample, after);
+    else if (works) reached_edge(before, sample, after);
 }
 
 /* ---- register calls, the line, re-arming ---- */
@@ -540,6 +974,19 @@ static void reached_cr(const camera *before, const camera *after)
     seen((falls & CAPTURE) && !disabled && open && after->frame == before->frame, CR_CAPTURE_CLEARED);
     seen((falls & CAPTURE) && !disabled && !open, CR_CAPTURE_CLEARED_OUTSIDE);
 
+    const bool ess = after->cr & ESS, waited = before->waiting && !after->waiting;
+    seen(after->cr == ESS, W6_CR);
+    seen(ess && (after->cr & CAPTURE), W6_CR_ENABLED);
+    seen(ess && (after->cr & CROP), W6_CR_CROP);
+    seen(ess && (after->cr & CM), W6_CR_SNAPSHOT);
+    seen(ess && fcrc(after->cr), W6_CR_RATE);
+    seen((falls & ESS) && ((after->cr & JPEG) || edm(after->cr)), W6_CR_BACK);
+    seen(disabled && (before->cr & ESS) && waited, W6_DISABLE);
+    seen(disabled && (before->cr & ESS) && open && !(before->blanked & HSYNC) && after->ris == before->ris, W6_DISABLE_LINE);
+    seen((rises & ENABLE) && ess && before->blanked && !after->blanked && !after->waiting, W6_ENABLE);
+    seen((rises & ENABLE) && ess && waited, W6_ENABLE_IMAGE);
+    seen((rises & CAPTURE) && ess && open && before->rate && after->rate == before->rate, W6_RISES_INSIDE);
+
     const bool jpeg = after->cr & JPEG, left = jpeg && before->data, no_word = after->completed == before->completed;
     seen(after->cr == JPEG, W4_CR_BARE);
     seen(jpeg && !(after->cr & CM), W4_CR);
@@ -561,14 +1008,35 @@ static void reached_write(const camera *before, uint32_t offset, const camera *a
         seen(after->ris == before->ris, ICR_CLEARS_NONE);
         break;
     case DCMI_IER: seen(after->ier != before->ier, IER_WRITE); break;
+    case DCMI_ESCR: seen(after->escr != before->escr, W6_ESCR); break;
+    case DCMI_ESUR: seen(after->esur != before->esur, W6_ESUR); break;
     case DCMI_CWSTRT: seen(after->cwstrt != before->cwstrt, CWSTRT_WRITE); break;
     case DCMI_CWSIZE: seen(after->cwsize != before->cwsize, CWSIZE_WRITE); break;
     }
 }
 
+/* W6: SR, where the pins would give another than the codes. */
+static void reached_code_status(const call *made, uint32_t pins_blank)
+{
+    const uint32_t cr = made->before[DCMI_W_CR], codes_said = made->before[DCMI_W_HSYNC_BLANKED];
+    const bool open = made->before[DCMI_W_FRAME], disabled = !(cr & ENABLE);
+    const uint32_t syncs = made->output & 3;
+    const uint32_t by_codes = (open && !codes_said ? 0 : 1) | (open ? 0 : 2);
+    seen(!(cr & ESS) && syncs == pins_blank && syncs != by_codes, W6_SR_ESS_0);
+    if (!(cr & ESS)) return;
+    seen(open && !codes_said && syncs == 0 && pins_blank == 3, W6_SR_LINE);
+    seen(open && codes_said && syncs == 1 && pins_blank != 1, W6_SR_BETWEEN);
+    seen(!open && !disabled && syncs == 3 && !pins_blank, W6_SR_OUTSIDE);
+    seen(disabled && syncs == 3 && !pins_blank, W6_SR_DISABLED);
+}
+
 static void reached_read(const call *made)
 {
+    seen(made->offset == DCMI_ESCR && made->output && made->output == made->before[DCMI_W_ESCR], W6_ESCR_READ);
+    seen(made->offset == DCMI_ESUR && made->output && made->output == made->before[DCMI_W_ESUR], W6_ESUR_READ);
     if (made->offset == DCMI_SR) {
+        const uint32_t pins = made->before[DCMI_W_HSYNC] | made->before[DCMI_W_VSYNC] << 1, blank = ~(pins ^ made->before[DCMI_W_CR] >> 6) & 3;
+        reached_code_status(made, blank);
         seen(made->output & 4, READ_FNE);
         seen((made->output & 3) == 1, READ_HSYNC);
         seen((made->output & 3) == 2, READ_VSYNC);
@@ -621,14 +1089,15 @@ static void follow_driver(const call *made)
 /* The bits that are not reserved; RIS, IER and ICR have the same. */
 static uint32_t bits_of(uint32_t offset)
 {
+    if (offset == DCMI_ESCR || offset == DCMI_ESUR) return UINT32_MAX;
     return offset == DCMI_CR ? 0x4FFF : offset == DCMI_CWSTRT ? 0x1FFF3FFF : offset == DCMI_CWSIZE ? 0x3FFF3FFF : 0x1F;
 }
 
 /* CR contents of refusal 5. */
 static bool unsupported(uint32_t cr)
 {
-    const bool beside_jpeg = (cr & JPEG) && (cr & (CROP | 0xC00));
-    return beside_jpeg || (cr & ESS) || fcrc(cr) == 3 || (cr & (CAPTURE | ENABLE)) == CAPTURE;
+    const bool beside_jpeg = (cr & JPEG) && (cr & (CROP | 0xC00)), beside_ess = (cr & ESS) && (cr & (JPEG | 0xC00));
+    return beside_jpeg || beside_ess || fcrc(cr) == 3 || (cr & (CAPTURE | ENABLE)) == CAPTURE;
 }
 
 /* W4: contents of refusal 5 because of JPEG and one of what it excludes, and of nothing else; `first` is the first of five branches. */
@@ -641,13 +1110,33 @@ static void reached_jpeg(uint32_t cr, branch first)
     seen(excluded == ESS, first + 4);
 }
 
-/* W4: a CR write that was refused. */
+/* W6: contents of refusal 5 because of ESS and an EDM, and of nothing else; `first` is the first of three branches. */
+static void reached_ess(uint32_t cr, branch first)
+{
+    if (!(cr & ESS) || unsupported(cr & ~(uint32_t)0xC00)) return;
+    for (uint32_t width = 1; width <= 3; width++) seen(edm(cr) == width, first + (width - 1));
+}
+
+/* W4, W6: a CR write that was refused. */
 static void reached_refused_cr(const call *made)
 {
     const uint32_t cr = made->value, change = made->before[DCMI_W_CR] ^ cr;
     if (made->answer == 5) reached_jpeg(cr, W4_CR_CROP);
+    if (made->answer == 5) reached_ess(cr, W6_CR_EDM_1);
+    seen(made->answer == 5 && (cr & ESS) && (cr & JPEG) && !unsupported(cr & ~(uint32_t)JPEG), W6_CR_JPEG);
+    seen(made->answer == 6 && change == ESS, cr & ESS ? W6_CR_SET : W6_CR_CLEAR);
     seen(made->answer == 4 && (cr & JPEG) && !unsupported(cr), W4_CR_RESERVED);
     seen(made->answer == 6 && change == JPEG, cr & JPEG ? W4_CR_SET : W4_CR_CLEAR);
+}
+
+/* W6: ESCR and ESUR while enabled. */
+static void reached_refused_codes(const call *made)
+{
+    const bool escr = made->offset == DCMI_ESCR, esur = made->offset == DCMI_ESUR;
+    const bool same = made->value == made->before[escr ? DCMI_W_ESCR : DCMI_W_ESUR];
+    if (!escr && !esur) return;
+    seen(!same, escr ? W6_ESCR_ENABLED : W6_ESUR_ENABLED);
+    seen(same, escr ? W6_ESCR_SAME : W6_ESUR_SAME);
 }
 
 static inline uint64_t fault(bool holds, branch which) { return (uint64_t)holds << (which - FIRST_FAULT); }
@@ -659,6 +1148,7 @@ static uint64_t image_faults(const uint32_t *w)
     return fault(w[DCMI_W_HSYNC] > 1 || w[DCMI_W_VSYNC] > 1 || w[DCMI_W_CLOCK] > 1, NO_LEVEL)
          | fault(w[DCMI_W_HSYNC_BLANKED] > 1 || w[DCMI_W_VSYNC_BLANKED] > 1, NO_BLANK)
          | fault(w[DCMI_W_FRAME] > 2, NO_FRAME)
+         | fault(w[DCMI_W_WAITING] > 3, NO_WAITING)
          | fault(closed && w[DCMI_W_LINES], NO_LINES)
          | fault(closed && w[DCMI_W_PIXELS], NO_PIXELS);
 }
@@ -721,6 +1211,7 @@ static bool reached_image(const uint32_t *image)
 {
     uint64_t faults = image_faults(image);
     if (!faults) faults = device_faults(image);
+    seen(!faults && image[DCMI_W_WAITING] && !(image[DCMI_W_CR] & ENABLE), W6_OFF_WAITING);
     if (!faults) return false;
     for (unsigned i = 0; i < FAULTS; i++) seen(faults == UINT64_C(1) << i, FIRST_FAULT + i);
     seen(faults & fault(true, M_OFF_PARTIAL), M_OFF_PARTIAL);
@@ -730,6 +1221,7 @@ static bool reached_image(const uint32_t *image)
     seen_at(faults == fault(true, M_HELD) && held == depth + 1, T_MORE_HELD, depth);
     if (faults == fault(true, M_SLOT) || faults == fault(true, M_SLOT_BEYOND)) reached_slot(image);
     if (faults == fault(true, M_CR)) reached_jpeg(image[DCMI_W_CR], M_JPEG_CROP);
+    if (faults == fault(true, M_CR)) reached_ess(image[DCMI_W_CR], M_ESS_EDM_1);
     return true;
 }
 
@@ -744,11 +1236,16 @@ static void walk_sample(camera *c, const call *made, uint32_t sample)
     outcome unused;
     model_sample(c, made->memory, made->memory_length, made->start, sample, &unused);
     reached_sample(&before, sample, c);
-    seen_at(c->discarded != before.discarded, made->kind == RUN ? T_RUN_OVERRUN : T_FILE_OVERRUN, made->kind == RUN_FILE ? 0 : c->depth);
+    const bool overrun = c->completed != before.completed && c->discarded != before.discarded;
+    seen_at(overrun, made->kind == RUN ? T_RUN_OVERRUN : T_FILE_OVERRUN, made->kind == RUN_FILE ? 0 : c->depth);
     samples_made++;
 
-    const bool run = made->kind == RUN, padded = before.data && (c->blanked & VSYNC) && c->completed != before.completed;
-    const bool lost = c->discarded != before.discarded;
+    const bool run = made->kind == RUN, padded = (before.cr & JPEG) && before.data && (c->blanked & VSYNC) && c->completed != before.completed;
+    const bool lost = c->discarded != before.discarded, ess = before.cr & ESS;
+    const uint32_t raised = c->ris & ~before.ris;
+    seen(raised & F_ERR, run ? W6_ERR_RUN : W6_ERR_FILE);
+    seen(ess && (raised & F_FRAME), run ? W6_FRAME_RUN : W6_FRAME_FILE);
+    seen(ess && (raised & F_FRAME) && !run && made->file[3] == 2, W6_FRAME_FILE_2);
     seen(padded && !lost, run ? W4_PADDED_RUN : W4_PADDED_FILE);
     seen(padded && lost, run ? W4_LOST_RUN : W4_LOST_FILE);
     seen(padded && !run && made->file[3] == 2, W4_PADDED_FILE_2);
@@ -922,20 +1419,20 @@ static uint32_t write_reasons(const call *made, bool malformed)
 {
     const uint32_t offset = made->offset, value = made->value, cr = made->before[DCMI_W_CR];
     const bool read_only = offset == DCMI_SR || offset == DCMI_RIS || offset == DCMI_MIS;
-    const bool window = offset == DCMI_CWSTRT || offset == DCMI_CWSIZE;
-    const bool known = read_only || window || offset == DCMI_CR || offset == DCMI_IER || offset == DCMI_ICR;
+    const bool set_up = offset == DCMI_ESCR || offset == DCMI_ESUR || offset == DCMI_CWSTRT || offset == DCMI_CWSIZE;
+    const bool known = read_only || set_up || offset == DCMI_CR || offset == DCMI_IER || offset == DCMI_ICR;
     const bool change = (value ^ cr) & ~(uint32_t)(CAPTURE | ENABLE);
     return reason(malformed, 0)
          | reason(!known, 1)
          | reason(read_only, 2)
          | reason(known && (value & ~bits_of(offset)), 3)
          | reason(offset == DCMI_CR && unsupported(value), 4)
-         | reason((cr & ENABLE) && (window || (offset == DCMI_CR && change)), 5);
+         | reason((cr & ENABLE) && (set_up || (offset == DCMI_CR && change)), 5);
 }
 
 static uint32_t read_reasons(const call *made, bool malformed)
 {
-    const bool known = made->offset % 4 == 0 && made->offset <= 0x24 && made->offset != 0x18 && made->offset != 0x1C;
+    const bool known = made->offset % 4 == 0 && made->offset <= 0x24;
     return reason(malformed, 0) | reason(!known, 1) | reason(made->offset == DCMI_ICR, 2);
 }
 
@@ -1108,6 +1605,7 @@ const char *reached_call(const call *made)
     if (made->answer == 0) reached_at_depth(made);
     if (made->kind == RESET_DEPTH) reached_depth(made, W9_RESET_0);
     if (made->kind == WRITE && made->offset == DCMI_CR && made->answer) reached_refused_cr(made);
+    if (made->kind == WRITE && made->answer == 6) reached_refused_codes(made);
     if (made->kind == RUN_FILE_DEPTH && only_18(made)) reached_depth(made, W9_FILE_0);
     if (made->answer == 0 && made->kind < RUN) reached_device(made);
     if (made->answer == 0 && made->kind == RUN && !reached_run(made)) return "the model's run is not its samples one by one";

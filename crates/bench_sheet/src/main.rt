@@ -158,9 +158,12 @@ fn windows() {
 }
 
 fn registers() {
-    text(b"CR write 0x8 is accepted (W4), 0x10 is refused 5, 0x1008 is refused 4:\n");
+    text(
+        b"CR write 0x8 is accepted (W4), and 0x10 (W6); 0x18 is refused 5, 0x1008 is refused 4:\n",
+    );
     let d = write(device::fresh(), Register::CR, 0x8);
     let d = write(d, Register::CR, 0x10);
+    let d = write(d, Register::CR, 0x18);
     let d = write(d, Register::CR, 0x1008);
     text(b"Enabled, CWSTRT write 0 is refused 6:\n");
     let d = write(d, Register::CR, 0x48E3);

@@ -60,7 +60,7 @@ not-due (Open taken f) s = rw (no-rise s f, and-zero taken)
 
 pub plain-edge : (s : Capture) (x : ℕ)
     → at-edge-by frame-end-before-W4 s not-blanking x
-    ≡ (let p = pixel-in (frame-start s not-blanking .frame) (frame-start s not-blanking) not-blanking x in record { state = with-syncs not-blanking (p .state); word = p .word; due = false })
+    ≡ (let p = pixel-in (frame-start s not-blanking .frame) (frame-start s not-blanking) not-blanking x in record { state = with-syncs not-blanking (p .state); word = p .word; due = false; error = false })
 unfolding at-edge-by pixel-edge frame-end-before-W4 frame-closes sync-flags line-flag vsync-flag
 plain-edge s x = rw (and-zero (not (s .syncs .vsync)), and-zero (not (s .syncs .hsync)), not-due (s .frame) s)
 

@@ -16,7 +16,7 @@ word (Full v) = some v
 
 -- The state after a sample, in which FRAME has risen where it is due, and its word.
 abbrev pub captured : Captured → capture-rules.Captured
-captured c = record { state = c .state; word = word (c .word); due = false }
+captured c = record { state = c .state; word = word (c .word); due = false; error = false }
 
 -- The state after rules 2 to 5 of a sample, without a pixel.
 unfoldable pub ended : Capture → ℕ → Capture

@@ -44,6 +44,7 @@ pub fn close_frame(s: Capture) -> Capture
     let pins = s.pins;
     let syncs = s.syncs;
     let rate = s.rate;
+    let waiting = s.waiting;
     Capture {
         registers,
         pins,
@@ -51,6 +52,7 @@ pub fn close_frame(s: Capture) -> Capture
         frame: Frame::Closed,
         rate,
         partial: Partial { count: 0, bits: 0 },
+        waiting,
     }
 }
 
@@ -87,7 +89,7 @@ fn hsync_after_window(s: Capture, f: Scan, now: Syncs) -> bool
 }
 
 // Rule 4: when FRAME rises in a taken frame. With CROP 0 at frame end, with CROP 1 (W1) at the end of the window's last line, or at frame end if that line never ended.
-fn frame_rises(s: Capture, f: Scan, now: Syncs) -> bool
+pub fn frame_rises(s: Capture, f: Scan, now: Syncs) -> bool
     ensures { λ r. ⌜ r ≡ capture-rules.frame-rises s f now ⌝ }
 {
     if control::crop(s.registers.cr) {
@@ -175,7 +177,7 @@ pub fn rate_period(cr: u32) -> u32
 }
 
 // Rule 5: the rate counter goes up modulo its period; with CM 1 it stays.
-fn next_rate(s: Capture) -> u32
+pub fn next_rate(s: Capture) -> u32
     requires { ⌜ s .rate + 1 < 2 ^ 32 ⌝ }
     ensures { λ r. ⌜ r ≡ capture-rules.next-rate s ⌝ }
 {
@@ -197,6 +199,7 @@ fn open_frame(s: Capture) -> Capture
         count: s.partial.count,
         bits: s.partial.bits,
     };
+    let waiting = s.waiting;
     let rate = next_rate(s);
     let taken = takes(s);
     Capture {
@@ -212,11 +215,12 @@ fn open_frame(s: Capture) -> Capture
         ),
         rate,
         partial,
+        waiting,
     }
 }
 
 // Rule 5: the frame is taken if CM is 1 or the rate counter is 0.
-fn takes(s: Capture) -> bool
+pub fn takes(s: Capture) -> bool
     ensures { λ r. ⌜ r ≡ capture-rules.takes s ⌝ }
 {
     if control::snapshot(s.registers.cr) {

@@ -1,4 +1,4 @@
-// Rules 2 to 8 of one sample, over the capture state, by whether it pads a word (W4): a rule has the name of its definition, and an edge is cut by whether a sync blanks. The functions are for the
+// Rules 2 to 8 of one sample, over the capture state, by the sync pins, and by whether it pads a word (W4); by codes they are in the crate `coded_capture` (W6). A rule has the name of its definition, and an edge is cut by whether a sync blanks. The functions are for the
 // crates above, which call them on well-formed devices; each states its result as an equation with its definition.
 ghost use mathlib.Core.Bool.{cond};
 ghost use mathlib.Core.Option.{none, some};
@@ -51,6 +51,7 @@ pub fn apart(s: Capture) -> Capture
     ensures { λ r. ⌜ r ≡ s ⌝ }
 {
     let frame = s.frame;
+    let waiting = s.waiting;
     Capture {
         registers: Registers {
             cr: s.registers.cr,
@@ -58,6 +59,8 @@ pub fn apart(s: Capture) -> Capture
             ier: s.registers.ier,
             cwstrt: s.registers.cwstrt,
             cwsize: s.registers.cwsize,
+            escr: s.registers.escr,
+            esur: s.registers.esur,
         },
         pins: Pins {
             hsync: s.pins.hsync,
@@ -74,11 +77,12 @@ pub fn apart(s: Capture) -> Capture
             count: s.partial.count,
             bits: s.partial.bits,
         },
+        waiting,
     }
 }
 
 // The state with another place in the open frame.
-fn with_scan(taken: bool, f: Scan, s: Capture) -> Capture
+pub fn with_scan(taken: bool, f: Scan, s: Capture) -> Capture
     ensures { λ r. ⌜ r ≡ state.with-frame (Open taken f) s ⌝ }
 {
     let s = apart(s);
@@ -90,6 +94,7 @@ fn with_scan(taken: bool, f: Scan, s: Capture) -> Capture
         count: s.partial.count,
         bits: s.partial.bits,
     };
+    let waiting = s.waiting;
     Capture {
         registers,
         pins,
@@ -97,11 +102,12 @@ fn with_scan(taken: bool, f: Scan, s: Capture) -> Capture
         syncs,
         rate,
         partial,
+        waiting,
     }
 }
 
 // Rule 8: the datum joins the partial word, which is then partial still, or full.
-fn pack(mut s: Capture, datum: u32) -> Captured
+pub fn pack(mut s: Capture, datum: u32) -> Captured
     requires { ⌜ Joins (edm (s .registers .cr)) (s .partial .count) (s .partial .bits) datum ⌝ }
     ensures { λ r. ⌜ capture-answers.captured r ≡ capture-rules.pack s datum ⌝ }
 {
@@ -193,7 +199,7 @@ fn blanked_edge(s: Capture, now: Syncs) -> Captured
 }
 
 // Rule 2: the sample's levels are remembered.
-fn remember_pins(mut s: Capture, w: u32) -> Capture
+pub fn remember_pins(mut s: Capture, w: u32) -> Capture
     ensures { λ r. ⌜ r ≡ capture-rules.remember-pins w s ⌝ }
 {
     let hsync = hsync_pin(w);

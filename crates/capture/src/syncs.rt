@@ -72,7 +72,7 @@ fn raised(weight: u32, x: u32) -> u32
     x + weight
 }
 
-// The flags of RIS that rules 3, 4 and 9 raise.
+// The flags of RIS that rules 3, 4 and 9, and codes (W6), raise.
 pub fn raise_frame(mut s: Capture) -> Capture
     requires { ⌜ s .registers .ris ≤ 31 ⌝ }
     ensures { λ r. ⌜ r ≡ state.raise 0 s ⌝ }
@@ -87,6 +87,15 @@ pub fn raise_ovr(mut s: Capture) -> Capture
     ensures { λ r. ⌜ r ≡ state.raise 1 s ⌝ }
 {
     let ris = raised(2, s.registers.ris);
+    s.registers.ris = ris;
+    s
+}
+
+pub fn raise_err(mut s: Capture) -> Capture
+    requires { ⌜ s .registers .ris ≤ 31 ⌝ }
+    ensures { λ r. ⌜ r ≡ state.raise 2 s ⌝ }
+{
+    let ris = raised(4, s.registers.ris);
     s.registers.ris = ris;
     s
 }

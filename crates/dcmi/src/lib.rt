@@ -1,4 +1,4 @@
-// The C interface: what include/dcmi.h declares, on numbers and bytes. A device is an image of 55 words that the caller owns. Each function answers 0
+// The C interface: what include/dcmi.h declares, on numbers and bytes. A device is an image of 58 words that the caller owns. Each function answers 0
 // or a refusal number for every input, has no `requires`, and states its whole result, the image, the memory and the outputs that it leaves, as one
 // equation with a definition of specs/; refused, all of them are as they were.
 ghost use mathlib.Core.List.{List};
@@ -7,6 +7,7 @@ ghost use Prim.Native.Nat.{ℕ};
 ghost use Rattle.rules.specs.declared.Core.{Core};
 ghost use Rattle.device.specs.Answers as device-answers;
 ghost use Rattle.output.specs.Answers as output-answers;
+ghost use Rattle.full_word.specs.Answers as word-answers;
 ghost use Rattle.sampling.specs.Answers as sample-answers;
 ghost use Rattle.trace.specs.Answers as trace-answers;
 ghost use Rattle.trace.specs.Writing as writing;
@@ -17,17 +18,17 @@ use device::Reading;
 use device_words::device_of;
 use device_words::encodes;
 use device_words::image_of;
+use full_word::Packing;
 use output::Landing;
 use refusals::Outcome;
 use rules::Device;
-use sampling::Packing;
 use sampling::SampledCore;
 use sampling::sample_core;
 use trace::Item;
 use trace::Read;
 
 // The image after a call that changes the device.
-fn store(image: &mut [u32; 55], after: Changed) -> u32
+fn store(image: &mut [u32; 58], after: Changed) -> u32
     ensures { λ r. ⌜ call-rules.called r (now (image .exit)) ≡ call-rules.changed (now (image .entry)) (device-answers.changed after) ⌝ }
 {
     let outcome = after.outcome;
@@ -45,7 +46,7 @@ fn store(image: &mut [u32; 55], after: Changed) -> u32
 
 // A fresh device.
 #[no_mangle]
-pub extern "C" fn dcmi_reset(image: &mut [u32; 55]) -> u32
+pub extern "C" fn dcmi_reset(image: &mut [u32; 58]) -> u32
     ensures { λ r. ⌜ call-rules.called r (now (image .exit)) ≡ call-rules.reset ⌝ }
 {
     let d = device::fresh();
@@ -55,7 +56,7 @@ pub extern "C" fn dcmi_reset(image: &mut [u32; 55]) -> u32
 
 // A device made with a depth.
 #[no_mangle]
-pub extern "C" fn dcmi_reset_depth(image: &mut [u32; 55], depth: u32) -> u32
+pub extern "C" fn dcmi_reset_depth(image: &mut [u32; 58], depth: u32) -> u32
     ensures { λ r. ⌜ call-rules.called r (now (image .exit)) ≡ call-rules.reset-depth (now (image .entry)) depth ⌝ }
 {
     let after = device::made(depth);
@@ -64,7 +65,7 @@ pub extern "C" fn dcmi_reset_depth(image: &mut [u32; 55], depth: u32) -> u32
 
 // A register write.
 #[no_mangle]
-pub extern "C" fn dcmi_write(image: &mut [u32; 55], offset: u32, value: u32) -> u32
+pub extern "C" fn dcmi_write(image: &mut [u32; 58], offset: u32, value: u32) -> u32
     ensures { λ r. ⌜ call-rules.called r (now (image .exit)) ≡ call-rules.write (now (image .entry)) offset value ⌝ }
 {
     let words = *image;
@@ -77,7 +78,7 @@ pub extern "C" fn dcmi_write(image: &mut [u32; 55], offset: u32, value: u32) -> 
 
 // The next word goes to place 0.
 #[no_mangle]
-pub extern "C" fn dcmi_rearm(image: &mut [u32; 55]) -> u32
+pub extern "C" fn dcmi_rearm(image: &mut [u32; 58]) -> u32
     ensures { λ r. ⌜ call-rules.called r (now (image .exit)) ≡ call-rules.rearm (now (image .entry)) ⌝ }
 {
     let words = *image;
@@ -104,7 +105,7 @@ fn put_reading(reading: Reading, value: &mut u32) -> u32
 
 // A register read.
 #[no_mangle]
-pub extern "C" fn dcmi_read(image: &[u32; 55], offset: u32, value: &mut u32) -> u32
+pub extern "C" fn dcmi_read(image: &[u32; 58], offset: u32, value: &mut u32) -> u32
     ensures { λ r. ⌜ call-rules.gave r (now (value .exit)) ≡ call-rules.read (now (image .entry)) offset (now (value .entry)) ⌝ }
 {
     let words = *image;
@@ -135,7 +136,7 @@ fn put_line(line: InterruptLine, level: &mut u32) -> u32
 
 // The interrupt line: 1 up, 0 down.
 #[no_mangle]
-pub extern "C" fn dcmi_interrupt(image: &[u32; 55], level: &mut u32) -> u32
+pub extern "C" fn dcmi_interrupt(image: &[u32; 58], level: &mut u32) -> u32
     ensures { λ r. ⌜ call-rules.gave r (now (level .exit)) ≡ call-rules.interrupt (now (image .entry)) (now (level .entry)) ⌝ }
 {
     let words = *image;
@@ -149,7 +150,7 @@ pub extern "C" fn dcmi_interrupt(image: &[u32; 55], level: &mut u32) -> u32
 // A run of samples over the memory from the start byte on.
 #[no_mangle]
 pub extern "C" fn dcmi_run_slices(
-    image: &mut [u32; 55],
+    image: &mut [u32; 58],
     memory: &mut [u8],
     start: usize,
     samples: &[u32],
@@ -167,7 +168,7 @@ pub extern "C" fn dcmi_run_slices(
 // A trace file on a fresh device, over the memory from the start byte on.
 #[no_mangle]
 pub extern "C" fn dcmi_run_file_slices(
-    image: &mut [u32; 55],
+    image: &mut [u32; 58],
     file: &[u8],
     memory: &mut [u8],
     start: usize,
@@ -181,7 +182,7 @@ pub extern "C" fn dcmi_run_file_slices(
 // A trace file on a device made with a depth.
 #[no_mangle]
 pub extern "C" fn dcmi_run_file_depth_slices(
-    image: &mut [u32; 55],
+    image: &mut [u32; 58],
     depth: u32,
     file: &[u8],
     memory: &mut [u8],
@@ -212,7 +213,7 @@ fn byte_word(landing: Landing) -> u64
 }
 
 fn packed_word(packing: Packing) -> u64
-    ensures { λ r. ⌜ r ≡ call-rules.packed-word (sample-answers.packing packing) ⌝ }
+    ensures { λ r. ⌜ r ≡ call-rules.packed-word (word-answers.packing packing) ⌝ }
 {
     match packing {
         Packing::Nothing => 0,
@@ -222,7 +223,7 @@ fn packed_word(packing: Packing) -> u64
 }
 
 fn value_word(packing: Packing) -> u64
-    ensures { λ r. ⌜ r ≡ call-rules.value-word (sample-answers.packing packing) ⌝ }
+    ensures { λ r. ⌜ r ≡ call-rules.value-word (word-answers.packing packing) ⌝ }
 {
     match packing {
         Packing::Nothing => 0,
@@ -232,7 +233,7 @@ fn value_word(packing: Packing) -> u64
 }
 
 fn put_sampled(
-    image: &mut [u32; 55],
+    image: &mut [u32; 58],
     answer: &mut [u64; 4],
     after: SampledCore,
     slots: [u32; 32],
@@ -258,7 +259,7 @@ fn put_sampled(
 // One sample over the memory from the start byte on, with its two answers.
 #[no_mangle]
 pub extern "C" fn dcmi_sample_slices(
-    image: &mut [u32; 55],
+    image: &mut [u32; 58],
     memory: &mut [u8],
     start: usize,
     sample: u32,

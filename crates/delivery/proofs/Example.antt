@@ -1,5 +1,5 @@
 -- The premises can be met. At depth 4, at 12 bits and at 8: a scenario with runs, single samples and refused calls; five words are noted, and the four samples
--- that grant stand in every 16 (32) of them. With JPEG (W4) words are padded, some of them four samples after the one before. At depth 1 each word waits as long as the deadline lets it. At depth 32 up to 25 words are held (W9).
+-- that grant stand in every 16 (32) of them. With JPEG (W4) words are padded, some of them four samples after the one before. With codes in the data (W6) released bytes bring two words four samples apart. At depth 1 each word waits as long as the deadline lets it. At depth 32 up to 25 words are held (W9).
 use mathlib.Core.Bool.{true, false}
 use mathlib.Core.List.{List, [], _∷_, _++_, map}
 use mathlib.Core.Path.{_≡_, refl, ap, _∙_}
@@ -10,7 +10,7 @@ use Rattle.output.specs.Output.{usual-depth}
 use Rattle.delivery.specs.Calls.{SetUpCall, a-write, a-run, a-sample}
 use Rattle.delivery.specs.Delivery.{Scenario, set-up, Premises, Promised, All, all-moments}
 use Rattle.delivery.proofs.Theorem.{delivery}
-use Rattle.delivery.proofs.Outcome.{final, Outcome, outcome, premises, twelve-bits, eight-bits, compressed, pixels, every, periods, one-run}
+use Rattle.delivery.proofs.Outcome.{final, Outcome, outcome, premises, twelve-bits, eight-bits, compressed, coded, clocked, code, granting, pixels, every, periods, one-run}
 
 -- A blank edge and n samples of pixels in a run, 6 + m in another, four of which grant, and four alone. A bit above 17 refuses a run and a single sample.
 abbrev pub example : SetUpCall → ℕ → ℕ → Scenario
@@ -75,10 +75,6 @@ at-8-bits = delivers (example eight-bits 20 10) refl refl refl
 
 -- JPEG (W4): frames of five, one and four bytes. The first leaves one over, so that its last word is padded, four samples after the one before; so does the second; the third
 -- leaves none, and pads none. Two words land in time, a padded one among them.
-abbrev clocked : List ℕ → List ℕ
-clocked [] = []
-clocked (x ∷ xs) = x ∷ (x + 0x10000) ∷ clocked xs
-
 abbrev pub pictures : Scenario
 pictures =
     record {
@@ -89,7 +85,7 @@ pictures =
           a-run (0x0C000 ∷ 0x40000 ∷ []) ∷
           map a-sample (0x2C000 ∷ 0x3C000 ∷ []) ++
           a-sample 0x40000 ∷
-          a-run (map (λ w. w + 0x20000) (clocked (6 ∷ []))) ∷
+          a-run (granting (clocked (6 ∷ []))) ∷
           map a-sample (clocked (0xC000 ∷ [])) ++
           a-run (clocked (7 ∷ 8 ∷ 9 ∷ 10 ∷ 0xC000 ∷ [])) ∷
           [];
@@ -115,6 +111,46 @@ pub with-jpeg :
     pictures
 unfolding outcome
 with-jpeg = delivers pictures refl refl refl
+
+-- Codes in the data (W6): after 1, 2, 3 the bytes FF 00 begin like a code, and the 4 releases all three. FF fills the first word, and 00, 4 begin the second, which 5 and 6 fill four
+-- samples later. Both land in time, and the third word is held.
+abbrev pub coded-lines : Scenario
+coded-lines =
+    record {
+      depth = usual-depth;
+      set-up-calls = coded;
+      calls =
+          a-run (clocked (code 0xA1)) ∷
+          a-run (granting (clocked (1 ∷ 2 ∷ []))) ∷
+          a-run (clocked (3 ∷ []) ++ 0x40000 ∷ []) ∷
+          a-run (clocked (3 ∷ 0xFF ∷ 0 ∷ [])) ∷
+          map a-sample (clocked (4 ∷ 5 ∷ 6 ∷ [])) ++
+          a-sample 0x40000 ∷
+          a-run (granting (clocked (7 ∷ 8 ∷ []))) ∷
+          a-run (clocked (9 ∷ 10 ∷ code 0xD4)) ∷
+          [];
+      start = 3;
+      memory = replicate 24 0xEE;
+    }
+
+pub with-codes :
+    Delivers
+    (record {
+      met = true;
+      distance = 4;
+      moments = 4 + 40 + 13;
+      samples = 40;
+      noted = 20 ∷ 24 ∷ 32 ∷ [];
+      completed = 3;
+      landed = 2;
+      discarded = 0;
+      held = 0x0A090807 ∷ [];
+      overrun = false;
+    })
+    (replicate 3 0xEE ++ (1 ∷ 2 ∷ 3 ∷ 0xFF ∷ 0 ∷ 4 ∷ 5 ∷ 6 ∷ []) ++ replicate 13 0xEE)
+    coded-lines
+unfolding outcome
+with-codes = delivers coded-lines refl refl refl
 
 -- The outcome of one run of n samples: k words are noted, s samples apart, and those that have not landed are held.
 abbrev rest-held : ℕ → ℕ → ℕ → ℕ → List ℕ → Outcome

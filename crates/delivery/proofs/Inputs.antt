@@ -1,16 +1,21 @@
 -- Samples as the queue sees them: whether each grants the bus, and the word that the capture rules note at it, if any. Their words and grants are the claim's.
-use mathlib.Core.Bool.{cond}
+use mathlib.Core.Bool.{false, cond}
 use mathlib.Core.List.{List, [], _∷_, _++_}
 use mathlib.Core.Option.{Option, none, some}
-use mathlib.Core.Path.{_≡_, refl, ap}
+use mathlib.Core.Path.{_≡_, refl, ap, _∙_}
 use Prim.Native.Nat.{ℕ, zero, suc, _+_}
 use lib.ListN.{length, take, drop, length-map}
 use Rattle.queue.specs.Queue.{Input}
 use Rattle.queue.specs.Queue as queue
+use Rattle.registers.specs.Control.{embedded}
+use Rattle.bits.proofs.Booleans.{or-false}
+use Rattle.laws.proofs.RegisterValues.{half-setup, same-embedded}
+use Rattle.laws.proofs.Sampled.{next-half}
+use Rattle.laws.proofs.Errors.{no-error-by-pins}
 use Rattle.rules.specs.declared.Capture.{Capture}
-use Rattle.rules.specs.Capture.{capture-sample, next-capture}
+use Rattle.rules.specs.Sample.{capture-sample, next-capture}
 use Rattle.samples.specs.Samples.{bus-grant}
-use Rattle.delivery.specs.Noted.{note, noted, words}
+use Rattle.delivery.specs.Noted.{note, noted, words, any-error}
 use Rattle.delivery.specs.Delivery.{grants}
 
 -- The sample w in the capture state s; some samples; and the capture state after them.
@@ -68,3 +73,17 @@ inputs-words n s (w ∷ ws) = go (capture-sample s w .word) (inputs-words (n + 1
 
 pub count-words : (s : Capture) (xs : List ℕ) → length (queue.words (inputs s xs)) ≡ length (noted 0 s xs)
 count-words s xs = rw (inputs-words 0) (length-map (noted 0 s xs) (λ n. n .word))
+
+-- ERR (W6): where it rises at none of some samples, it rises at none of the first of them; with ESS 0 it rises at none.
+pub first-calm : (s : Capture) (xs ys : List ℕ) → any-error s (xs ++ ys) ≡ false → any-error s xs ≡ false
+unfolding any-error
+first-calm s [] ys quiet = refl
+first-calm s (w ∷ ws) ys quiet =
+    let (here, rest) = or-false (capture-sample s w .error) (any-error (next-capture s w) (ws ++ ys)) quiet in
+    rw (here, first-calm (next-capture s w) ws ys rest)
+
+pub calm-by-pins : (s : Capture) (xs : List ℕ) → embedded (s .registers .cr) ≡ false → any-error s xs ≡ false
+unfolding any-error
+calm-by-pins s [] plain = refl
+calm-by-pins s (w ∷ ws) plain =
+    rw (no-error-by-pins s w plain, calm-by-pins (next-capture s w) ws (same-embedded _ (s .registers .cr) (half-setup _ _ (next-half s w)) ∙ plain))

@@ -7,7 +7,7 @@ use native.Mathlib.Omega.{arith}
 use lib.ListN.{length, take, length-append}
 use borrow.Author.Tests.{eq-eqb, ne-eqb}
 use Rattle.rules.specs.declared.Capture.{Capture}
-use Rattle.rules.specs.Capture.{capture-sample, next-capture}
+use Rattle.rules.specs.Sample.{capture-sample, next-capture}
 use Rattle.delivery.specs.Noted.{Noted, note, noted, noted-at}
 use Rattle.delivery.proofs.Inputs.{captures}
 use Rattle.delivery.proofs.Following.{answered}

@@ -16,8 +16,8 @@ use Rattle.rules.specs.Run.{in-memory, sample}
 use Rattle.rules.proofs.EveryRule.{every-rule}
 use Rattle.bits.proofs.Booleans.{and-true}
 use Rattle.delivery.specs.Calls.{SetUpCall, a-write, after-set-up, after-set-ups, devices, Call, a-run, System, accepted, after-call, samples, inside, moments}
-use Rattle.delivery.specs.Noted.{write-found, noted-write, noted-set-up, noted-set-ups, note, noted, spacing}
-use Rattle.delivery.specs.Delivery.{grants, Scenario, set-up, trace, distance, noted-by, Premises, all-moments}
+use Rattle.delivery.specs.Noted.{write-found, noted-write, noted-set-up, noted-set-ups, note, noted, any-error, spacing}
+use Rattle.delivery.specs.Delivery.{grants, Scenario, set-up, trace, configured, distance, noted-by, Premises, all-moments}
 
 -- A test that each tail of a list passes.
 abbrev pub tails : (List ℕ → Bool) → List ℕ → Bool
@@ -35,6 +35,7 @@ pub record Windows (w g : ℕ) (x : Scenario) : Type 0 where
   pub made : bad-depth (x .depth) ≡ false
   pub room : 4 * length (noted-by x (length (trace x))) ≤ length (x .memory) - x .start
   pub granted : (k : ℕ) → k + w ≤ length (trace x) → g ≤ grants (take w (drop k (trace x)))
+  pub no-error : any-error (configured x) (trace x) ≡ false
 
 abbrev pub has-room : Scenario → Bool
 has-room x = leb (4 * length (noted-by x (length (trace x)))) (length (x .memory) - x .start)
@@ -62,11 +63,11 @@ pub record Outcome : Type 0 where
   pub overrun : Bool
 
 unfoldable pub outcome : ℕ → ℕ → Scenario → Outcome
-unfolding final grants spacing after-set-up after-set-ups devices accepted after-call samples inside moments noted-write noted-set-up noted-set-ups write-found note noted every-rule in-memory sample
+unfolding final grants spacing after-set-up after-set-ups devices accepted after-call samples inside moments noted-write noted-set-up noted-set-ups write-found note noted any-error every-rule in-memory sample
 outcome w g x =
     let d = final (x .start) (set-up x) (x .calls) .device in
     record {
-      met = not (bad-depth (x .depth)) && (has-room x && tails (has-grants w g) (trace x));
+      met = not (bad-depth (x .depth)) && (has-room x && (tails (has-grants w g) (trace x) && not (any-error (configured x) (trace x))));
       distance = distance x;
       moments = length (all-moments x);
       samples = length (trace x);
@@ -81,12 +82,15 @@ outcome w g x =
 pub windows : (w g : ℕ) (x : Scenario) → outcome w g x .met ≡ true → Windows w g x
 unfolding outcome
 windows w g x e =
-    let (sound, rest) = and-true (not (bad-depth (x .depth))) (has-room x && tails (has-grants w g) (trace x)) e in
-    let (fits, dense) = and-true (has-room x) (tails (has-grants w g) (trace x)) rest in
+    let calm = not (any-error (configured x) (trace x)) in
+    let (sound, rest) = and-true (not (bad-depth (x .depth))) (has-room x && (tails (has-grants w g) (trace x) && calm)) e in
+    let (fits, others) = and-true (has-room x) (tails (has-grants w g) (trace x) && calm) rest in
+    let (dense, quiet) = and-true (tails (has-grants w g) (trace x)) calm others in
     record {
       made = not-true _ sound;
       room = leb-true _ _ fits;
       granted = λ k h. window k h (each-tail (has-grants w g) (trace x) dense k);
+      no-error = not-true _ quiet;
     }
   where
     window : (k : ℕ) → k + w ≤ length (trace x) → has-grants w g (drop k (trace x)) ≡ true → g ≤ grants (take w (drop k (trace x)))
@@ -95,7 +99,7 @@ windows w g x e =
 -- The premises themselves, for s samples from word to word.
 pub premises : (s : ℕ) (x : Scenario) → outcome (x .depth * s) (x .depth) x .met ≡ true → outcome (x .depth * s) (x .depth) x .distance ≡ s → Premises x
 unfolding outcome
-premises s x e is = let h = windows (x .depth * s) (x .depth) x e in record { made = h .made; room = h .room; granted = rw is (h .granted) }
+premises s x e is = let h = windows (x .depth * s) (x .depth) x e in record { made = h .made; room = h .room; granted = rw is (h .granted); no-error = h .no-error }
 
 -- Writes of CR: 12 bits and 8 bits, snapshot, polarities 1, enabled and capturing.
 abbrev pub twelve-bits : SetUpCall
@@ -107,6 +111,20 @@ eight-bits = a-write 0 0x40E3 (omega arith)
 -- JPEG (W4), continuous, polarities 1, enabled and capturing.
 abbrev pub compressed : SetUpCall
 compressed = a-write 0 0x40E9 (omega arith)
+
+-- Codes in the data (W6): the four codes of mode 2, all bits compared, enabled and capturing; bytes, each at a rising clock edge; the four of a code.
+abbrev pub coded : List SetUpCall
+coded = a-write 0x18 0xD4C3B2A1 (omega arith) ∷ a-write 0x1C 0xFFFFFFFF (omega arith) ∷ a-write 0 0x4031 (omega arith) ∷ []
+
+abbrev pub clocked : List ℕ → List ℕ
+clocked [] = []
+clocked (x ∷ xs) = x ∷ (x + 0x10000) ∷ clocked xs
+
+abbrev pub code : ℕ → List ℕ
+code xy = 0xFF ∷ 0 ∷ 0 ∷ xy ∷ []
+
+abbrev pub granting : List ℕ → List ℕ
+granting ws = map (λ w. w + 0x20000) ws
 
 -- Pixels 1, 2, 3 and so on, at two samples each, from sample number i on, with these grants.
 abbrev pub pixels : ℕ → List Bool → List ℕ

@@ -16,7 +16,8 @@ use Rattle.rules.specs.declared.Capture.{Capture}
 use Rattle.rules.specs.declared.Device.{Device}
 use Rattle.rules.specs.State.{device, fresh-capture, fresh-of}
 use Rattle.rules.specs.RegisterCalls.{disables, register-tests, write-refusal, write-register, write-at, write, made}
-use Rattle.rules.specs.WellFormed.{malformed}
+use Rattle.rules.specs.WellFormed.{excluded, malformed}
+use Rattle.rules.proofs.WellFormed.{facts}
 use Rattle.bits.proofs.Booleans.{either}
 use Rattle.laws.proofs.Flags.{write-flags}
 use Rattle.laws.proofs.Keeps.{fresh-well-formed}
@@ -94,3 +95,7 @@ module _ (depth : ℕ) (sound : bad-depth depth ≡ false) where
 
   pub set-up-ready : (cs : List SetUpCall) → Ready depth (noted-set-ups (fresh-of depth .core .capture) cs) (after-set-ups (fresh-of depth) cs)
   set-up-ready cs = all-ready _ _ cs fresh-ready
+
+  -- Its CR is one that is accepted.
+  pub set-up-allowed : (cs : List SetUpCall) → excluded (noted-set-ups (fresh-of depth .core .capture) cs .registers) ≡ false
+  set-up-allowed cs = let r = set-up-ready cs in rw (r .is) at (facts _ (r .formed) .capture .allowed)

@@ -1,21 +1,22 @@
 -- The premise is needed at every depth (W9): with windows one sample longer, or with one grant fewer in each, a frame overruns, though there is room, with JPEG too (W4). At depths 1 and 4
 -- by computation over the rules, at depth 32 on the queue alone, whose theorem is over every depth and spacing.
 use mathlib.Core.Bool.{true, false}
-use mathlib.Core.List.{[], _++_, map}
-use mathlib.Core.Path.{_≡_, refl, ap}
+use mathlib.Core.List.{List, [], _∷_, _++_, map}
+use mathlib.Core.Path.{_≡_, refl, ap, _∙_}
 use Prim.Native.Nat.{ℕ, _+_}
 use native.Mathlib.Omega.{arith}
 use lib.ListN.{length, replicate}
 use Rattle.bits.specs.Bits.{bit}
 use Rattle.queue.proofs.Sharp as queue
+use Rattle.delivery.specs.Calls.{a-run}
 use Rattle.delivery.specs.Delivery.{Scenario, set-up, trace, noted-by}
-use Rattle.delivery.proofs.Outcome.{Windows, final, Outcome, outcome, windows, twelve-bits, eight-bits, every, periods, one-run, padded-run}
+use Rattle.delivery.proofs.Outcome.{Windows, final, Outcome, outcome, windows, twelve-bits, eight-bits, coded, clocked, code, granting, every, periods, one-run, padded-run}
 
-pub record Overruns (w g s k m : ℕ) (x : Scenario) : Type 0 where
+pub record Overruns (w g : ℕ) (noted : List ℕ) (m : ℕ) (x : Scenario) : Type 0 where
   -- The device was made, there is room for all words, and each w samples hold at least g grants.
   pub windows : Windows w g x
-  -- k words are noted, s samples apart.
-  pub words : map (λ n. n .sample) (noted-by x (length (trace x))) ≡ every s (s + 2) k
+  -- Words are noted at these samples.
+  pub words : map (λ n. n .sample) (noted-by x (length (trace x))) ≡ noted
   -- At the end OVR is up, and m words are lost.
   pub overrun : bit 1 (final (x .start) (set-up x) (x .calls) .device .core .capture .registers .ris) ≡ true
   pub discarded : final (x .start) (set-up x) (x .calls) .device .core .output .counts .discarded ≡ m
@@ -36,66 +37,104 @@ last-lost s k n l m =
       overrun = true;
     }
 
-overruns : (w g s k n l m : ℕ) (x : Scenario) → outcome w g x ≡ last-lost s k n l m → Overruns w g s k m x
+overruns-as : (w g : ℕ) (o : Outcome) (x : Scenario) → o .met ≡ true → o .overrun ≡ true → outcome w g x ≡ o → Overruns w g (o .noted) (o .discarded) x
 unfolding outcome
-overruns w g s k n l m x e =
+overruns-as w g o x met overrun e =
     record {
-      windows = windows w g x (ap (λ o. o .met) e);
+      windows = windows w g x (ap (λ o. o .met) e ∙ met);
       words = ap (λ o. o .noted) e;
-      overrun = ap (λ o. o .overrun) e;
+      overrun = ap (λ o. o .overrun) e ∙ overrun;
       discarded = ap (λ o. o .discarded) e;
     }
 
+overruns : (w g s k n l m : ℕ) (x : Scenario) → outcome w g x ≡ last-lost s k n l m → Overruns w g (every s (s + 2) k) m x
+overruns w g s k n l m x e = overruns-as w g (last-lost s k n l m) x refl refl e
+
 -- Depth 4: four grants in each 17 samples, three in each 16.
-pub slow : Overruns 17 4 4 17 5 (one-run 4 twelve-bits (periods 4 4 13))
+pub slow : Overruns 17 4 (every 4 6 17) 5 (one-run 4 twelve-bits (periods 4 4 13))
 unfolding outcome
 slow = overruns 17 4 4 17 70 12 5 (one-run 4 twelve-bits (periods 4 4 13)) refl
 
-pub scarce : Overruns 16 3 4 8 5 (one-run 4 twelve-bits (periods 2 3 13))
+pub scarce : Overruns 16 3 (every 4 6 8) 5 (one-run 4 twelve-bits (periods 2 3 13))
 unfolding outcome
 scarce = overruns 16 3 4 8 34 3 5 (one-run 4 twelve-bits (periods 2 3 13)) refl
 
 -- The same at 8 bits: four in each 33, three in each 32.
-pub slow-8 : Overruns 33 4 8 17 5 (one-run 4 eight-bits (replicate 4 false ++ periods 4 4 29))
+pub slow-8 : Overruns 33 4 (every 8 10 17) 5 (one-run 4 eight-bits (replicate 4 false ++ periods 4 4 29))
 unfolding outcome
 slow-8 = overruns 33 4 8 17 138 12 5 (one-run 4 eight-bits (replicate 4 false ++ periods 4 4 29)) refl
 
-pub scarce-8 : Overruns 32 3 8 8 5 (one-run 4 eight-bits (replicate 4 false ++ periods 2 3 29))
+pub scarce-8 : Overruns 32 3 (every 8 10 8) 5 (one-run 4 eight-bits (replicate 4 false ++ periods 2 3 29))
 unfolding outcome
 scarce-8 = overruns 32 3 8 8 70 3 5 (one-run 4 eight-bits (replicate 4 false ++ periods 2 3 29)) refl
 
 -- With JPEG (W4), frames of one pixel, so that each word is padded and they come four samples apart: four in each 17, three in each 16. The grants that do for 8 bits
 -- without JPEG, four in each 32, are too few.
-pub slow-jpeg : Overruns 17 4 4 17 5 (padded-run 4 (periods 4 4 13))
+pub slow-jpeg : Overruns 17 4 (every 4 6 17) 5 (padded-run 4 (periods 4 4 13))
 unfolding outcome
 slow-jpeg = overruns 17 4 4 17 70 12 5 (padded-run 4 (periods 4 4 13)) refl
 
-pub scarce-jpeg : Overruns 16 3 4 8 5 (padded-run 4 (periods 2 3 13))
+pub scarce-jpeg : Overruns 16 3 (every 4 6 8) 5 (padded-run 4 (periods 2 3 13))
 unfolding outcome
 scarce-jpeg = overruns 16 3 4 8 34 3 5 (padded-run 4 (periods 2 3 13)) refl
 
 abbrev as-at-8-bits : Scenario
 as-at-8-bits = padded-run 4 (replicate 14 false ++ replicate 4 true ++ replicate 18 false)
 
-pub too-few-jpeg : Overruns 32 4 4 9 5 as-at-8-bits
+pub too-few-jpeg : Overruns 32 4 (every 4 6 9) 5 as-at-8-bits
 unfolding outcome
 too-few-jpeg = overruns 32 4 4 9 38 4 5 as-at-8-bits refl
 
+-- With codes in the data (W6) the grants that do for 8 bits without ESS, four in each 32, are too few: they come before the first of two words four samples apart, and the words after them,
+-- each eight samples on, fill the FIFO before the next grant is due.
+abbrev as-without-codes : Scenario
+as-without-codes =
+    record {
+      depth = 4;
+      set-up-calls = coded;
+      calls =
+          a-run
+          (clocked (code 0xA1) ++ clocked (1 ∷ 2 ∷ 3 ∷ 0xFF ∷ []) ++ granting (clocked (0 ∷ 4 ∷ [])) ++
+          clocked (5 ∷ 6 ∷ 7 ∷ 8 ∷ 9 ∷ 10 ∷ 11 ∷ 12 ∷ 13 ∷ 14 ∷ 15 ∷ 16 ∷ 17 ∷ 18 ∷ [])) ∷
+          [];
+      start = 0;
+      memory = replicate 20 0xEE;
+    }
+
+abbrev too-few : Outcome
+too-few =
+    record {
+      met = true;
+      distance = 4;
+      moments = 4 + 48 + 1;
+      samples = 48;
+      noted = 20 ∷ 24 ∷ 32 ∷ 40 ∷ 48 ∷ [];
+      completed = 5;
+      landed = 0;
+      discarded = 5;
+      held = [];
+      overrun = true;
+    }
+
+pub too-few-codes : Overruns 32 4 (20 ∷ 24 ∷ 32 ∷ 40 ∷ 48 ∷ []) 5 as-without-codes
+unfolding outcome
+too-few-codes = overruns-as 32 4 too-few as-without-codes refl refl refl
+
 -- Depth 1: one grant in each 5 samples, none in each 4.
-pub depth-1-slow : Overruns 5 1 4 3 2 (one-run 1 twelve-bits (replicate 2 false ++ periods 2 1 4))
+pub depth-1-slow : Overruns 5 1 (every 4 6 3) 2 (one-run 1 twelve-bits (replicate 2 false ++ periods 2 1 4))
 unfolding outcome
 depth-1-slow = overruns 5 1 4 3 14 1 2 (one-run 1 twelve-bits (replicate 2 false ++ periods 2 1 4)) refl
 
-pub depth-1-scarce : Overruns 4 0 4 2 2 (one-run 1 twelve-bits (replicate 8 false))
+pub depth-1-scarce : Overruns 4 0 (every 4 6 2) 2 (one-run 1 twelve-bits (replicate 8 false))
 unfolding outcome
 depth-1-scarce = overruns 4 0 4 2 10 0 2 (one-run 1 twelve-bits (replicate 8 false)) refl
 
 -- The same at 8 bits: one in each 9, none in each 8.
-pub depth-1-slow-8 : Overruns 9 1 8 3 2 (one-run 1 eight-bits (replicate 6 false ++ periods 2 1 8))
+pub depth-1-slow-8 : Overruns 9 1 (every 8 10 3) 2 (one-run 1 eight-bits (replicate 6 false ++ periods 2 1 8))
 unfolding outcome
 depth-1-slow-8 = overruns 9 1 8 3 26 1 2 (one-run 1 eight-bits (replicate 6 false ++ periods 2 1 8)) refl
 
-pub depth-1-scarce-8 : Overruns 8 0 8 2 2 (one-run 1 eight-bits (replicate 16 false))
+pub depth-1-scarce-8 : Overruns 8 0 (every 8 10 2) 2 (one-run 1 eight-bits (replicate 16 false))
 unfolding outcome
 depth-1-scarce-8 = overruns 8 0 8 2 18 0 2 (one-run 1 eight-bits (replicate 16 false)) refl
 

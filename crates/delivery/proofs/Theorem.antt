@@ -17,17 +17,20 @@ use Rattle.queue.specs.Queue as queue
 use Rattle.landing.specs.Landing.{Out, puts, Fits, Conditions, Landed}
 use Rattle.landing.proofs.Theorem.{empty, fits, landed}
 use Rattle.rules.specs.declared.Capture.{Capture}
-use Rattle.rules.specs.Capture.{enabled, capture-sample, next-capture}
+use Rattle.rules.specs.Capture.{enabled}
+use Rattle.rules.specs.Sample.{capture-sample, next-capture}
 use Rattle.rules.specs.State.{device, fresh-of}
 use Rattle.rules.specs.Run.{Packed, Ran}
-use Rattle.laws.proofs.Moved.{next-overrun, next-enable, word-enabled}
+use Rattle.registers.specs.Control.{embedded}
+use Rattle.laws.proofs.RegisterValues.{eight-bits}
+use Rattle.laws.proofs.Sampled.{next-overrun, next-enable, word-enabled}
 use Rattle.delivery.specs.Calls.{devices, Moment, moments}
-use Rattle.delivery.specs.Noted.{Noted, noted, words, noted-at}
+use Rattle.delivery.specs.Noted.{Noted, noted, words, noted-at, any-error}
 use Rattle.delivery.specs.Delivery.{grants, Scenario, set-up, trace, configured, distance, noted-by, Premises, Promised, All, unsampled, all-moments, Delivery}
-use Rattle.delivery.proofs.Inputs.{input, inputs, captures, inputs-append, inputs-take, inputs-length, window-grants, inputs-words, count-words}
+use Rattle.delivery.proofs.Inputs.{input, inputs, captures, inputs-append, inputs-take, inputs-length, window-grants, inputs-words, count-words, first-calm, calm-by-pins}
 use Rattle.delivery.proofs.Spacing.{always-spaced, spacing-positive}
 use Rattle.delivery.proofs.Following.{steps-fit, last-answer}
-use Rattle.delivery.proofs.SetUp.{fresh-ready, set-up-ready}
+use Rattle.delivery.proofs.SetUp.{fresh-ready, set-up-ready, set-up-allowed}
 use Rattle.delivery.proofs.NotedNumbers.{numbered, last-noted}
 use Rattle.delivery.proofs.OneCall.{ran}
 use Rattle.delivery.proofs.Unsampled.{each-promised}
@@ -71,7 +74,7 @@ module _ (x : Scenario) (p : Premises x) where
         deep = deep (x .depth) (p .made);
         positive = spacing-positive _;
         granted = λ k h. rw window-grants (p .granted k (rw inputs-length at h));
-        spaced = always-spaced (configured x) (trace x);
+        spaced = always-spaced (configured x) (trace x) (λ coded. eight-bits (configured x .registers) (set-up-allowed (x .depth) (p .made) (x .set-up-calls)) coded .0);
         room = rw (count-words, length-drop) (rw take-length at (p .room));
         enabled = none-disabled (configured x) (trace x);
       }
@@ -81,11 +84,14 @@ module _ (x : Scenario) (p : Premises x) where
     split : Conditions (enabled (configured x)) (x .depth) (distance x) (lent x) (inputs (configured x) xs ++ inputs (captures (configured x) xs) zs)
     split = rw (← inputs-append, ← e) conditions
 
+    calm : any-error (configured x) xs ≡ false
+    calm = first-calm (configured x) xs zs (rw e at (p .no-error))
+
     fit : Fits (enabled (configured x)) (empty (x .depth) (lent x)) (inputs (configured x) xs)
     fit = fits (inputs (configured x) xs) (inputs (captures (configured x) xs) zs) split
 
     follows : ran (x .start) (set-up x) xs ≡ record { device = device (captures (configured x) xs) (out x xs .state); buffer = out x xs .buffer }
-    follows = rw (set-up-ready (x .depth) (p .made) (x .set-up-calls) .is) (steps-fit (configured x) (empty (x .depth) (lent x)) xs refl fit)
+    follows = rw (set-up-ready (x .depth) (p .made) (x .set-up-calls) .is) (steps-fit (configured x) (empty (x .depth) (lent x)) xs refl calm fit)
 
     lands : Landed (x .depth) (distance x) (x .start) (x .memory) (inputs (configured x) xs) (out x xs)
     lands = landed (inputs (configured x) xs) (inputs (captures (configured x) xs) zs) split (x .start) (x .memory) refl
@@ -104,7 +110,8 @@ module _ (x : Scenario) (p : Premises x) where
       let ys = a .before in
       let w = a .last in
       let number : length (ys ++ w ∷ []) ≡ 0 + length ys + 1 = rw length-append (omega arith) in
-      let says = last-answer (configured x) (empty (x .depth) (lent x)) ys w refl (fit (ys ++ w ∷ []) zs (e ∙ rw (a .split))) in
+      let whole : trace x ≡ (ys ++ w ∷ []) ++ zs = e ∙ rw (a .split) in
+      let says = last-answer (configured x) (empty (x .depth) (lent x)) ys w refl (calm (ys ++ w ∷ []) zs whole) (fit (ys ++ w ∷ []) zs whole) in
       rw (a .split, number, last-noted) (a .packed ∙ rw (set-up-ready (x .depth) (p .made) (x .set-up-calls) .is) says)
 
   -- A moment after them.
@@ -144,8 +151,12 @@ delivery x p =
 abbrev Dense : Scenario → ℕ → Type 0
 Dense x depth = (k : ℕ) → k + depth * distance x ≤ length (trace x) → depth ≤ grants (take (depth * distance x) (drop k (trace x)))
 
--- Four is the depth where none is named (W9): room, and four grants in every 4·s samples, are all the premises.
+-- Four is the depth where none is named (W9): room, four grants in every 4·s samples, and no ERR are all the premises.
 pub usual : (x : Scenario) → x .depth ≡ usual-depth → 4 * length (noted-by x (length (trace x))) ≤ length (x .memory) - x .start
-    → Dense x 4 → All (Promised x) (all-moments x)
+    → Dense x 4 → any-error (configured x) (trace x) ≡ false → All (Promised x) (all-moments x)
 unfolding bad-depth
-usual x e room granted = delivery x (record { made = rw e; room = room; granted = subst (Dense x) (sym e) granted })
+usual x e room granted calm = delivery x (record { made = rw e; room = room; granted = subst (Dense x) (sym e) granted; no-error = calm })
+
+-- With ESS 0 the premise that ERR never rises is none (W6).
+pub without-codes : (x : Scenario) → embedded (configured x .registers .cr) ≡ false → any-error (configured x) (trace x) ≡ false
+without-codes x plain = calm-by-pins (configured x) (trace x) plain

@@ -15,7 +15,7 @@ use Rattle.output.specs.Output.{contents}
 use Rattle.output.specs.WellFormed.{bad-depth}
 use Rattle.landing.specs.Memory.{with-words}
 use Rattle.delivery.specs.Calls.{SetUpCall, after-set-ups, devices, Call, System, samples, Moment, moments}
-use Rattle.delivery.specs.Noted.{Noted, noted-set-ups, noted, words, noted-at, spacing}
+use Rattle.delivery.specs.Noted.{Noted, noted-set-ups, noted, words, noted-at, any-error, spacing}
 
 -- How many of some samples grant the bus.
 unfoldable pub grants : List ℕ → ℕ
@@ -39,7 +39,7 @@ set-up x = record { device = after-set-ups (fresh-of (x .depth)) (x .set-up-call
 abbrev pub trace : Scenario → List ℕ
 trace x = samples (x .start) (set-up x) (x .calls)
 
--- The capture state after the set-up calls, by the register rules alone; the spacing that its EDM gives; and the words noted at the first n samples.
+-- The capture state after the set-up calls, by the register rules alone; the spacing that its CR gives; and the words noted at the first n samples.
 abbrev pub configured : Scenario → Capture
 configured x = noted-set-ups (fresh-of (x .depth) .core .capture) (x .set-up-calls)
 
@@ -57,6 +57,8 @@ pub record Premises (x : Scenario) : Type 0 where
   pub room : 4 * length (noted-by x (length (trace x))) ≤ length (x .memory) - x .start
   -- W9: every d·s consecutive accepted samples, counted across the calls, hold at least d bus grants.
   pub granted : (k : ℕ) → k + x .depth * distance x ≤ length (trace x) → x .depth ≤ grants (take (x .depth * distance x) (drop k (trace x)))
+  -- W6: ERR rises at none of the accepted samples, as the noted words are: by the inputs alone.
+  pub no-error : any-error (configured x) (trace x) ≡ false
 
 -- What is promised at a moment after n samples.
 pub record Promised (x : Scenario) (m : Moment) : Type 0 where

@@ -1,17 +1,17 @@
 -- The words of the claim, from the inputs alone: the register rules and rules 2 to 8, over the accepted writes and samples from reset,
 -- without grants or FIFO, note each full word with its sample's number.
-use mathlib.Core.Bool.{cond, not, _&&_}
+use mathlib.Core.Bool.{Bool, false, cond, not, _&&_, _||_}
 use mathlib.Core.List.{List, [], _∷_, _++_, map}
 use mathlib.Core.Option.{Option, none, some}
 use Prim.Native.Nat.{ℕ, _+_}
 use lib.Dec.{eqb}
-use Rattle.registers.specs.Control.{jpeg, edm}
+use Rattle.registers.specs.Control.{jpeg, embedded, edm}
 use Rattle.registers.specs.Map.{register-at}
 use Rattle.registers.specs.declared.Found.{Found}
 use Rattle.registers.specs.declared.Found.the-variants.{At, Nothing}
 use Rattle.rules.specs.declared.Capture.{Capture}
 use Rattle.refusals.specs.Refusals.{first}
-use Rattle.rules.specs.Capture.{capture-sample, next-capture}
+use Rattle.rules.specs.Sample.{capture-sample, next-capture}
 use Rattle.rules.specs.Run.{Packed, nothing, completed}
 use Rattle.rules.specs.RegisterCalls.{register-tests, write-register}
 use Rattle.delivery.specs.Calls.{SetUpCall, a-write}
@@ -57,6 +57,12 @@ unfoldable pub noted-at : ℕ → List Noted → Packed
 noted-at n [] = nothing
 noted-at n (x ∷ xs) = cond (eqb (x .sample) n) (completed (x .word)) (noted-at n xs)
 
--- The smallest distance between noted words, s (W9): 8 samples at 8 bits without JPEG, else 4. With JPEG a padded word can come four samples after the one before (W4).
+-- ERR rises at one of some samples (W6), by the capture rules.
+unfoldable pub any-error : Capture → List ℕ → Bool
+any-error s [] = false
+any-error s (w ∷ ws) = capture-sample s w .error || any-error (next-capture s w) ws
+
+-- The smallest distance between noted words, s (W9): 8 samples at 8 bits without JPEG and ESS, else 4. With JPEG a padded word can come four samples after the one before (W4), and
+-- with ESS released bytes can bring two words four samples apart (W6).
 unfoldable pub spacing : ℕ → ℕ
-spacing cr = cond (eqb (edm cr) 0 && not (jpeg cr)) 8 4
+spacing cr = cond (eqb (edm cr) 0 && not (jpeg cr) && not (embedded cr)) 8 4

@@ -7,7 +7,7 @@ use Rattle.refusals.specs.Table.{number, outcome}
 use Rattle.rules.specs.Answers as rule-answers
 use Rattle.rules.specs.Run.{RunResult, SampleAnswer, SampleResult}
 use Rattle.output.specs.Answers.{landing}
-use Rattle.sampling.specs.Answers.{packing}
+use Rattle.full_word.specs.Answers.{packing}
 use Rattle.device.specs.declared.Reading.{Reading}
 use Rattle.device.specs.declared.Reading.the-variants as reading-cases
 use Rattle.device.specs.declared.InterruptLine.{InterruptLine}

@@ -3,6 +3,7 @@ ghost use mathlib.Core.Path.{_≡_};
 ghost use Prim.Native.Nat.{_+_, _<_, _^_};
 ghost use Rattle.registers.specs.declared.Found.the-variants.{At};
 ghost use Rattle.rules.specs.RegisterCalls as register-rules;
+use codes::Waiting;
 use output::discard;
 use registers::Register;
 use registers::control;
@@ -32,6 +33,7 @@ fn enabling(s: Capture) -> Capture
         frame: Frame::Closed,
         rate: 0,
         partial,
+        waiting: Waiting::Zero,
     }
 }
 
@@ -49,6 +51,7 @@ fn disabling(s: Capture) -> Capture
         frame: Frame::Closed,
         rate: 0,
         partial: Partial { count: 0, bits: 0 },
+        waiting: Waiting::Zero,
     }
 }
 
@@ -122,6 +125,14 @@ fn write_register(register: Register, v: u32, mut s: Capture) -> Capture
         Register::InterruptClear => {
             let r = clear_flags(v, s.registers);
             s.registers = r;
+            s
+        }
+        Register::EmbeddedCode => {
+            s.registers.escr = v;
+            s
+        }
+        Register::EmbeddedUnmask => {
+            s.registers.esur = v;
             s
         }
         Register::WindowStart => {

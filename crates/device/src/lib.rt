@@ -10,6 +10,8 @@ mod control_writes;
 mod register_calls;
 mod runs;
 
+use codes::Waiting;
+use full_word::Packing;
 use output::Counts;
 use output::Landing;
 use output::Output;
@@ -31,7 +33,6 @@ use rules::Registers;
 use rules::Syncs;
 pub use runs::run;
 pub use runs::sample;
-use sampling::Packing;
 use well_formed::bad_depth;
 pub use well_formed::malformed;
 
@@ -77,6 +78,8 @@ fn fresh_of(depth: u32) -> Device
             ier: 0,
             cwstrt: 0,
             cwsize: 0,
+            escr: 0,
+            esur: 0,
         },
         pins: Pins {
             hsync: false,
@@ -90,6 +93,7 @@ fn fresh_of(depth: u32) -> Device
         frame: Frame::Closed,
         rate: 0,
         partial: Partial { count: 0, bits: 0 },
+        waiting: Waiting::Zero,
     };
     let output = Output {
         held: 0,

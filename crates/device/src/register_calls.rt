@@ -8,13 +8,16 @@ use crate::InterruptLine;
 use crate::Reading;
 use crate::control_writes::write_at;
 use capture::syncs::blanks;
+use coded_capture::coded_syncs;
 use refusals::Outcome;
 use refusals::Refusal;
 use registers::Access;
 use registers::Found;
 use registers::Register;
 use registers::control;
+use rules::Capture;
 use rules::Device;
+use rules::Syncs;
 use well_formed::malformed;
 
 fn number_if(t: bool, n: u32) -> u32
@@ -26,13 +29,32 @@ fn number_if(t: bool, n: u32) -> u32
     0
 }
 
+// Whether each sync blanks, for SR: by the pins of the last sample, or with ESS 1 by the codes (W6).
+fn pin_syncs(s: Capture) -> Syncs
+    ensures { λ r. ⌜ r ≡ register-rules.pin-syncs s ⌝ }
+{
+    let cr = s.registers.cr;
+    let hsync = blanks(s.pins.hsync, control::hspol(cr));
+    let vsync = blanks(s.pins.vsync, control::vspol(cr));
+    Syncs { hsync, vsync }
+}
+
+fn shown_syncs(s: Capture) -> Syncs
+    ensures { λ r. ⌜ r ≡ register-rules.shown-syncs s ⌝ }
+{
+    if control::embedded(s.registers.cr) {
+        return coded_syncs(s);
+    }
+    pin_syncs(s)
+}
+
 // SR.
 fn status(d: Device) -> u32
     ensures { λ r. ⌜ r ≡ register-rules.status d ⌝ }
 {
-    let cr = d.core.capture.registers.cr;
-    let hsync = number_if(blanks(d.core.capture.pins.hsync, control::hspol(cr)), 1);
-    let vsync = number_if(blanks(d.core.capture.pins.vsync, control::vspol(cr)), 2);
+    let shown = shown_syncs(d.core.capture);
+    let hsync = number_if(shown.hsync, 1);
+    let vsync = number_if(shown.vsync, 2);
     let fne = number_if(0 < d.core.output.held, 4);
     hsync + vsync + fne
 }
@@ -48,6 +70,8 @@ fn value(d: Device, register: Register) -> u32
         Register::InterruptEnable => d.core.capture.registers.ier,
         Register::MaskedStatus => d.core.capture.registers.ris & d.core.capture.registers.ier,
         Register::InterruptClear => 0,
+        Register::EmbeddedCode => d.core.capture.registers.escr,
+        Register::EmbeddedUnmask => d.core.capture.registers.esur,
         Register::WindowStart => d.core.capture.registers.cwstrt,
         Register::WindowSize => d.core.capture.registers.cwsize,
     }
@@ -110,7 +134,7 @@ fn changes_setup(cr: u32, v: u32) -> bool
 fn fixed(cr: u32, register: Register, v: u32) -> bool
     ensures { λ r. ⌜ r ≡ register-rules.fixed cr register v ⌝ }
 {
-    register.is_window() || (register.is_control() && changes_setup(cr, v))
+    register.is_fixed() || (register.is_control() && changes_setup(cr, v))
 }
 
 // Refusal 6, of a write to a register.

@@ -9,12 +9,15 @@ use lib.ListN.{length, take, drop, getD, length-drop, take-append-drop}
 use lib.Seq.{take-all, take-length, drop-length, take-at, drop-at, take-add, paste}
 use native.Mathlib.Nat.{zero-add}
 use borrow.Author.Tests.{leb-true, eqb-true}
+use Rattle.codes.specs.declared.Waiting.{Waiting}
+use Rattle.codes.specs.declared.Waiting.the-variants.{Zero, One, Two, Three}
+use Rattle.codes.specs.Bytes.{waiting-count}
 use Rattle.rules.specs.declared.Frame.{Frame}
 use Rattle.rules.specs.declared.Frame.the-variants.{Closed, Open}
 use Rattle.rules.specs.declared.Device.{Device}
 use Rattle.output.specs.Output.{slot-count}
 use Rattle.bits.proofs.Booleans.{and-true}
-use Rattle.device_words.specs.Image.{flag, frame-word, lines-word, pixels-word, image-words, slot, behind, words-behind, image-of, flags-encode, frame-encodes, encodes, frame-of, device-of}
+use Rattle.device_words.specs.Image.{flag, frame-word, lines-word, pixels-word, image-words, slot, behind, words-behind, image-of, flags-encode, frame-encodes, encodes, frame-of, waiting-of, device-of}
 
 -- A flag and its word.
 flag-back : (b : Bool) → eqb (flag b) 1 ≡ b
@@ -61,6 +64,28 @@ frame-words-back (suc (suc (suc n))) lines pixels e =
     let (small, rest) = and-true (leb (suc (suc (suc n))) 2) _ e in
     absurd (omega (arith, leb-true (suc (suc (suc n))) 2 small))
 
+-- The bytes that wait and their number.
+waiting-back : (k : Waiting) → waiting-of (waiting-count k) ≡ k
+unfolding waiting-of
+waiting-back Zero = refl
+waiting-back One = refl
+waiting-back Two = refl
+waiting-back Three = refl
+
+waiting-fits : (k : Waiting) → leb (waiting-count k) 3 ≡ true
+waiting-fits Zero = refl
+waiting-fits One = refl
+waiting-fits Two = refl
+waiting-fits Three = refl
+
+count-back : (n : ℕ) → leb n 3 ≡ true → waiting-count (waiting-of n) ≡ n
+unfolding waiting-of
+count-back zero e = refl
+count-back (suc zero) e = refl
+count-back (suc (suc zero)) e = refl
+count-back (suc (suc (suc zero))) e = refl
+count-back (suc (suc (suc (suc n)))) e = absurd (omega (arith, leb-true (suc (suc (suc (suc n)))) 3 e))
+
 -- The first elements of a list, one by one.
 elements : List ℕ → ℕ → ℕ → List ℕ
 elements l k zero = []
@@ -86,7 +111,7 @@ pub device-back : (d : Device) → length (d .slots) ≡ slot-count → device-o
 unfolding device-of image-of
 device-back d all =
     let s = d .core .capture in
-    let b = words-behind (d .core .output) in
+    let b = words-behind (d .core) in
     rw (
       flag-back (s .pins .hsync),
       flag-back (s .pins .vsync),
@@ -96,11 +121,12 @@ device-back d all =
       frame-back (s .frame),
       take-at (d .slots) b slot-count all,
       drop-at (d .slots) b slot-count all,
+      waiting-back (s .waiting),
     )
 
-pub image-encodes : (d : Device) → encodes (image-of d) ≡ true
+pub image-encodes : (d : Device) → length (d .slots) ≡ slot-count → encodes (image-of d) ≡ true
 unfolding encodes flags-encode image-of
-image-encodes d =
+image-encodes d all =
     let s = d .core .capture in
     rw (
       flag-fits (s .pins .hsync),
@@ -108,23 +134,26 @@ image-encodes d =
       flag-fits (s .pins .clock),
       flag-fits (s .syncs .hsync),
       flag-fits (s .syncs .vsync),
+      frame-fits (s .frame),
+      drop-at (d .slots) (words-behind (d .core)) slot-count all,
+      waiting-fits (s .waiting),
     )
-    (frame-fits (s .frame))
 
 -- Every image that encodes a device is the image of that device: no two images encode one device.
 pub image-back : (w : List ℕ) → length w ≡ image-words → encodes w ≡ true → image-of (device-of w) ≡ w
 unfolding encodes flags-encode image-of device-of elements
 image-back w all e =
-    let (flags, frame) = and-true (flags-encode (getD w 5 0) (getD w 6 0) (getD w 7 0) (getD w 8 0) (getD w 9 0)) (frame-encodes (getD w 10 0) (getD w 11 0) (getD w 12 0)) e in
+    let (flags, rest) = and-true (flags-encode (getD w 5 0) (getD w 6 0) (getD w 7 0) (getD w 8 0) (getD w 9 0)) _ e in
+    let (frame, few) = and-true (frame-encodes (getD w 10 0) (getD w 11 0) (getD w 12 0)) (leb (getD (drop behind w) 9 0) 3) rest in
     let (a, r) = and-true (leb (getD w 5 0) 1) _ flags in
     let (b, r′) = and-true (leb (getD w 6 0) 1) _ r in
     let (c, r″) = and-true (leb (getD w 7 0) 1) _ r′ in
     let (f, g) = and-true (leb (getD w 8 0) 1) (leb (getD w 9 0) 1) r″ in
     let (x, y, z) = frame-words-back (getD w 10 0) (getD w 11 0) (getD w 12 0) frame in
     let front : elements w 0 slot ≡ take slot w = elements-first slot w (omega arith) in
-    let size : length (drop behind w) ≡ 7 = length-drop behind w ∙ omega arith in
-    let back : elements (drop behind w) 0 7 ≡ drop behind w = elements-first 7 (drop behind w) (omega arith) ∙ take-all 7 _ (omega arith) in
-    rw (word-back _ a, word-back _ b, word-back _ c, word-back _ f, word-back _ g, x, y, z)
-    (ap (λ (l : List ℕ). l ++ take slot-count (drop slot w) ++ elements (drop behind w) 0 7) front ∙
+    let size : length (drop behind w) ≡ 10 = length-drop behind w ∙ omega arith in
+    let back : elements (drop behind w) 0 10 ≡ drop behind w = elements-first 10 (drop behind w) (omega arith) ∙ take-all 10 _ (omega arith) in
+    rw (word-back _ a, word-back _ b, word-back _ c, word-back _ f, word-back _ g, x, y, z, count-back _ few)
+    (ap (λ (l : List ℕ). l ++ take slot-count (drop slot w) ++ elements (drop behind w) 0 10) front ∙
     ap (λ (l : List ℕ). take slot w ++ take slot-count (drop slot w) ++ l) back ∙
     rw (← take-add {A = ℕ} slot slot-count w) (take-append-drop behind w))

@@ -1,10 +1,12 @@
-// A device as an image of 55 words of 32 bits, for programs in other languages, and back. The layout is that of include/dcmi.h; each device has one
+// A device as an image of 58 words of 32 bits, for programs in other languages, and back. The layout is that of include/dcmi.h; each device has one
 // image, and an image that encodes no device is told from those that do.
 ghost use mathlib.Core.Path.{_≡_};
 ghost use Prim.Native.Nat.{_+_, _≤_};
 ghost use lib.ListN.{length, drop};
 ghost use lib.Seq.{paste};
 ghost use Rattle.device_words.specs.Image as image;
+use codes::Waiting;
+use codes::waiting_count;
 use output::Counts;
 use output::Output;
 use output::SLOTS;
@@ -19,7 +21,7 @@ use rules::Scan;
 use rules::Syncs;
 
 // How many words there are; the index of the first slot, and that of the first word behind the slots.
-pub const WORDS: usize = 23 + SLOTS;
+pub const WORDS: usize = 26 + SLOTS;
 
 const SLOT: usize = 16;
 
@@ -115,14 +117,17 @@ fn words_before(s: Capture) -> [u32; SLOT]
     ]
 }
 
-// The words of a device.
-pub fn image_of(d: Device) -> [u32; WORDS]
-    ensures { λ r. ⌜ r ≡ image.image-of d ⌝ }
+// The words behind the slots.
+fn words_behind(s: Core) -> [u32; 10]
+    ensures { λ r. ⌜ r ≡ image.words-behind s ⌝ }
 {
-    let before = words_before(d.core.capture);
-    let output = d.core.output;
+    let output = s.output;
     let counts = output.counts;
-    let behind = [
+    let capture = s.capture;
+    let registers = capture.registers;
+    let waiting = capture.waiting;
+    let count = waiting_count(waiting);
+    [
         output.held,
         output.place,
         counts.samples,
@@ -130,7 +135,18 @@ pub fn image_of(d: Device) -> [u32; WORDS]
         counts.landed,
         counts.discarded,
         output.depth,
-    ];
+        registers.escr,
+        registers.esur,
+        count,
+    ]
+}
+
+// The words of a device.
+pub fn image_of(d: Device) -> [u32; WORDS]
+    ensures { λ r. ⌜ r ≡ image.image-of d ⌝ }
+{
+    let before = words_before(d.core.capture);
+    let behind = words_behind(d.core);
     let slots = d.slots;
     let mut words = [0; WORDS];
     put(&mut words, 0, &before);
@@ -179,7 +195,10 @@ pub fn encodes(w: [u32; WORDS]) -> bool
     ensures { λ r. ⌜ r ≡ image.encodes w ⌝ }
 {
     if flags_encode(w[5], w[6], w[7], w[8], w[9]) {
-        return frame_encodes(w[10], w[11], w[12]);
+        if frame_encodes(w[10], w[11], w[12]) {
+            return w[BEHIND + 9] <= 3;
+        }
+        return false;
     }
     false
 }
@@ -194,9 +213,24 @@ fn frame_of(frame: u32, lines: u32, pixels: u32) -> Frame
     Frame::Open(taken, Scan { lines, pixels })
 }
 
-// What the words before the slots say.
+fn waiting_of(count: u32) -> Waiting
+    ensures { λ r. ⌜ r ≡ image.waiting-of count ⌝ }
+{
+    if count == 0 {
+        return Waiting::Zero;
+    }
+    if count == 1 {
+        return Waiting::One;
+    }
+    if count == 2 {
+        return Waiting::Two;
+    }
+    Waiting::Three
+}
+
+// What the words before the slots say of the capture state, and the last three behind them.
 fn capture_of(w: [u32; WORDS]) -> Capture
-    ensures { λ r. ⌜ r ≡ image.capture-of w ⌝ }
+    ensures { λ r. ⌜ r ≡ image.capture-of w (drop image.behind w) ⌝ }
 {
     let registers = Registers {
         cr: w[0],
@@ -204,6 +238,8 @@ fn capture_of(w: [u32; WORDS]) -> Capture
         ier: w[2],
         cwstrt: w[3],
         cwsize: w[4],
+        escr: w[BEHIND + 7],
+        esur: w[BEHIND + 8],
     };
     let pins = Pins {
         hsync: w[5] == 1,
@@ -219,6 +255,7 @@ fn capture_of(w: [u32; WORDS]) -> Capture
         count: w[14],
         bits: w[15],
     };
+    let waiting = waiting_of(w[BEHIND + 9]);
     Capture {
         registers,
         pins,
@@ -226,10 +263,11 @@ fn capture_of(w: [u32; WORDS]) -> Capture
         frame,
         rate: w[13],
         partial,
+        waiting,
     }
 }
 
-// What those behind the slots say.
+// What the words behind the slots say of the output.
 fn output_of(w: [u32; WORDS]) -> Output
     ensures { λ r. ⌜ r ≡ image.output-of (drop image.behind w) ⌝ }
 {

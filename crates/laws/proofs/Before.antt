@@ -1,15 +1,16 @@
 -- What a request leaves as it was, for every device and every list of samples, in registers, flags, held words, counts, frame buffer and answers after each sample:
--- without JPEG all is as it was before W4 (`without-jpeg-as-before-W4`), and without CROP too as it was before W1 (`without-crop-as-before-W1`). The idea: without JPEG
+-- with ESS 0 all is as it was before W6 (`with-ess-0-as-before-W6`); without JPEG too as it was before W4 (`without-jpeg-as-before-W4`), and without CROP as it was before W1
+-- (`without-crop-as-before-W1`). The idea: without JPEG
 -- no word is padded, and where FRAME is due a sync blanks, so that there is no word at all and FRAME may as well rise before; no sample changes JPEG or CROP. Assumes nothing.
 use mathlib.Core.Bool.{Bool, true, false, cond, not, _&&_, _||_, false≢true}
 use mathlib.Core.List.{List, [], _∷_}
 use mathlib.Core.Option.{none}
-use mathlib.Core.Path.{_≡_, refl, sym, ap, _∙_}
-use Prim.Native.Nat.{ℕ, _+_, _/_}
+use mathlib.Core.Path.{_≡_, refl, ap, _∙_}
+use Prim.Native.Nat.{ℕ, _+_}
 use native.Mathlib.Omega.{arith}
-use lib.Dec.{ltb, leb}
-use Rattle.bits.proofs.Booleans.{and-true, and-zero, or-true, either}
-use Rattle.registers.specs.Control.{capture, crop, jpeg, snapshot}
+use lib.Dec.{leb}
+use Rattle.bits.proofs.Booleans.{and-true, either}
+use Rattle.registers.specs.Control.{capture, crop, jpeg, embedded, snapshot}
 use Rattle.samples.specs.Samples.{pixel-data, bus-grant}
 use Rattle.output.specs.Output.{OutputState, grant}
 use Rattle.rules.specs.declared.Syncs.{Syncs}
@@ -20,17 +21,37 @@ use Rattle.rules.specs.declared.Capture.{Capture}
 use Rattle.rules.specs.declared.Device.{Device}
 use Rattle.rules.specs.CropWindow.{lines-to-window-end}
 use Rattle.rules.specs.State.{capture-of, output-of, raise, clear-capture, close-frame, with-cr, with-ris, with-registers, with-pins, with-syncs, with-frame, with-rate, with-partial}
-use Rattle.rules.specs.Capture.{Captured, no-word, flagged, working-edge, enabled, remember-pins, blanking, any-blanks, sync-flags, window-ended, hsync-after-window, frame-rises, frame-due, padded, end-of, frame-closes, frame-pads, frame-end, next-rate, takes, open-frame, starts, start-of, frame-start, pixel-in, pixel-edge, either-word, at-edge, capture-sample}
-use Rattle.rules.specs.Run.{lose-frame, Completed, complete, after-grant, Stepped, counted, step}
+use Rattle.rules.specs.Capture.{Captured, no-word, flagged, working-edge, enabled, remember-pins, blanking, any-blanks, sync-flags, window-ended, hsync-after-window, frame-rises, frame-due, end-of, frame-closes, frame-pads, frame-end, next-rate, takes, open-frame, starts, start-of, frame-start, pixel-in, pixel-edge, either-word, at-edge}
+use Rattle.rules.specs.Sample.{edge, capture-sample}
+use Rattle.rules.specs.Run.{Completed, without-word, complete, after-grant, counted, step}
 use Rattle.laws.specs.Padding.{padded-at}
-use Rattle.laws.specs.Before.{ends-before-W1, frame-end-before-W1, frame-end-before-W4, at-edge-by, capture-sample-by, step-by, step-before-W1, step-before-W4, stepped-by}
-use Rattle.laws.proofs.RegisterValues.{same-crop, same-jpeg, half-setup}
+use Rattle.laws.specs.Before.{ends-before-W1, frame-end-before-W1, frame-end-before-W4, at-edge-by, capture-sample-by, step-by, capture-sample-before-W6, step-before-W6, step-before-W1, step-before-W4, stepped-by}
+use Rattle.laws.proofs.RegisterValues.{same-crop, same-jpeg, same-embedded, half-setup}
 use Rattle.rules.proofs.WellFormed.{CaptureOk}
 use Rattle.laws.proofs.CaptureParts.{pins-syncs-ok}
 use Rattle.laws.proofs.Kept.{Kept, then, sync-flags-kept, flagged-kept, frame-closes-kept, frame-start-kept}
 use Rattle.laws.proofs.Moved.{no-pixel, pixel-in-moved}
 use Rattle.laws.proofs.KeepsSample.{step-half}
 use Rattle.laws.proofs.Unpadded.{pads-seen, none-without-jpeg}
+
+-- W6. With ESS 0 a sample goes by the sync pins, and no sample changes ESS.
+step-by-pins : (d : Device) (b : List ℕ) (w : ℕ) → embedded (d .core .capture .registers .cr) ≡ false → step d b w ≡ step-before-W6 d b w
+unfolding step after-grant step-before-W6 capture-sample edge capture-sample-before-W6
+step-by-pins d b w plain =
+    let s = capture-of d in
+    let g = grant (bus-grant w) (enabled s) (counted (output-of d)) b in
+    ap (λ (c : Captured). let r = complete (c .word) c (g .state) in record { device = r .device; buffer = g .buffer; landing = g .landing; packed = r .packed }) (by-pins s w plain)
+  where
+    by-pins : (s : Capture) (w : ℕ) → embedded (s .registers .cr) ≡ false → capture-sample s w ≡ capture-sample-before-W6 s w
+    by-pins s w plain = rw plain
+
+pub with-ess-0-as-before-W6 : (d : Device) (b ws : List ℕ) → embedded (d .core .capture .registers .cr) ≡ false → stepped-by step d b ws ≡ stepped-by step-before-W6 d b ws
+unfolding stepped-by
+with-ess-0-as-before-W6 d b [] plain = refl
+with-ess-0-as-before-W6 d b (w ∷ ws) plain =
+    let r = step d b w in
+    let plain-stays = same-embedded _ _ (half-setup _ _ (step-half d b w)) in
+    rw (← step-by-pins d b w plain, with-ess-0-as-before-W6 (r .device) (r .buffer) ws (plain-stays ∙ plain))
 
 -- W4. Where FRAME is due a sync blanks.
 rises-blanks : (cropped ended reached hsync vsync : Bool) → cond cropped (not ended && ((reached && hsync) || vsync)) vsync ≡ true → hsync || vsync ≡ true
@@ -82,9 +103,9 @@ now-and-then c y = complete (c .word) c y
 edge-before : (due : Bool) (s : Capture) (now : Syncs) (x : ℕ) (y : OutputState) → frame-due (s .frame) s now ≡ due → frame-pads s now ≡ none
     → let p = pixel-edge (frame-start (frame-closes s now) now) now x in
     let q = pixel-edge (frame-start (frame-closes (cond due (raise 0 s) s) now) now) now x in
-    now-and-then (record { state = with-syncs now (p .state); word = either-word (frame-pads s now) (p .word); due = due }) y
-    ≡ now-and-then (record { state = with-syncs now (q .state); word = q .word; due = false }) y
-unfolding either-word complete flagged no-word pixel-edge frame-start with-syncs raise with-registers with-ris
+    now-and-then (record { state = with-syncs now (p .state); word = either-word (frame-pads s now) (p .word); due = due; error = false }) y
+    ≡ now-and-then (record { state = with-syncs now (q .state); word = q .word; due = false; error = false }) y
+unfolding either-word complete without-word flagged no-word pixel-edge frame-start with-syncs raise with-registers with-ris
 edge-before false s now x y is e = rw e
 edge-before true s now x y is e =
     rw (
@@ -95,11 +116,11 @@ edge-before true s now x y is e =
       no-pixel (raise 0 (frame-start (frame-closes s now) now) .frame) (raise 0 (frame-start (frame-closes s now) now)) now x (due-blanks (s .frame) s now is),
     )
 
--- A sample that pads no word. Rule 3 leaves what is padded.
-sample-before-W4 : (s : Capture) (w : ℕ) (y : OutputState) → padded-at s w ≡ none
+-- A sample that pads no word, with ESS 0 (W6). Rule 3 leaves what is padded.
+sample-before-W4 : (s : Capture) (w : ℕ) (y : OutputState) → embedded (s .registers .cr) ≡ false → padded-at s w ≡ none
     → now-and-then (capture-sample s w) y ≡ now-and-then (capture-sample-by frame-end-before-W4 s w) y
-unfolding capture-sample capture-sample-by at-edge at-edge-by frame-end frame-end-before-W4 padded-at
-sample-before-W4 s w y = go (working-edge s w && enabled s)
+unfolding capture-sample edge capture-sample-by at-edge at-edge-by frame-end frame-end-before-W4 padded-at
+sample-before-W4 s w y plain e = rw plain (go (working-edge s w && enabled s) e)
   where
     seen : Capture
     seen = remember-pins w s
@@ -110,21 +131,23 @@ sample-before-W4 s w y = go (working-edge s w && enabled s)
     go true e = edge-before _ (sync-flags seen (blanking s w)) (blanking s w) (pixel-data w) y refl (pads-seen s w (blanking s w) ∙ e)
     go false e = refl
 
-pub step-unpadded : (d : Device) (b : List ℕ) (w : ℕ) → padded-at (capture-of d) w ≡ none → step d b w ≡ step-before-W4 d b w
+pub step-unpadded : (d : Device) (b : List ℕ) (w : ℕ) → embedded (d .core .capture .registers .cr) ≡ false → padded-at (capture-of d) w ≡ none
+    → step d b w ≡ step-before-W4 d b w
 unfolding step after-grant step-by
-step-unpadded d b w e =
+step-unpadded d b w plain e =
     let s = capture-of d in
     let g = grant (bus-grant w) (enabled s) (counted (output-of d)) b in
-    ap (λ (c : Completed). record { device = c .device; buffer = g .buffer; landing = g .landing; packed = c .packed }) (sample-before-W4 s w (g .state) e)
+    ap (λ (c : Completed). record { device = c .device; buffer = g .buffer; landing = g .landing; packed = c .packed }) (sample-before-W4 s w (g .state) plain e)
 
-step-without-jpeg : (d : Device) (b : List ℕ) (w : ℕ) → jpeg (d .core .capture .registers .cr) ≡ false → step d b w ≡ step-before-W4 d b w
-step-without-jpeg d b w e = step-unpadded d b w (none-without-jpeg (capture-of d) w e)
+step-without-jpeg : (d : Device) (b : List ℕ) (w : ℕ) → embedded (d .core .capture .registers .cr) ≡ false → jpeg (d .core .capture .registers .cr) ≡ false
+    → step d b w ≡ step-before-W4 d b w
+step-without-jpeg d b w plain e = step-unpadded d b w plain (none-without-jpeg (capture-of d) w e)
 
 -- Such a sample leaves a well-formed state well-formed.
 pub end-before-kept : (s : Capture) (now : Syncs) → Kept s (frame-end-before-W4 s now)
 unfolding frame-end-before-W4 flagged
 end-before-kept s now =
-    let c : Captured = record { state = s; word = none; due = frame-due (s .frame) s now } in
+    let c : Captured = record { state = s; word = none; due = frame-due (s .frame) s now; error = false } in
     then (flagged-kept c) (frame-closes-kept (flagged c) now)
 
 edge-before-ok : {n : ℕ} (s : Capture) (now : Syncs) (x : ℕ) → CaptureOk n s → CaptureOk (n + 1) (at-edge-by frame-end-before-W4 s now x .state)
@@ -142,14 +165,16 @@ sample-before-ok {n} {s} w h =
     let later : CaptureOk (n + 1) (remember-pins w s) = pins-syncs-ok (remember-pins w s .pins) (s .syncs) (omega arith) h in
     either (λ (c : Captured). CaptureOk (n + 1) (c .state)) (working-edge s w && enabled s) (edge-before-ok (remember-pins w s) (blanking s w) (pixel-data w) seen) later
 
--- Every list of samples. No sample changes JPEG.
-pub without-jpeg-as-before-W4 : (d : Device) (b ws : List ℕ) → jpeg (d .core .capture .registers .cr) ≡ false → stepped-by step d b ws ≡ stepped-by step-before-W4 d b ws
+-- Every list of samples. No sample changes JPEG or ESS.
+pub without-jpeg-as-before-W4 : (d : Device) (b ws : List ℕ) → embedded (d .core .capture .registers .cr) ≡ false → jpeg (d .core .capture .registers .cr) ≡ false
+    → stepped-by step d b ws ≡ stepped-by step-before-W4 d b ws
 unfolding stepped-by
-without-jpeg-as-before-W4 d b [] e = refl
-without-jpeg-as-before-W4 d b (w ∷ ws) e =
+without-jpeg-as-before-W4 d b [] plain e = refl
+without-jpeg-as-before-W4 d b (w ∷ ws) plain e =
     let r = step d b w in
+    let plain-stays = same-embedded _ _ (half-setup _ _ (step-half d b w)) in
     let same = same-jpeg _ _ (half-setup _ _ (step-half d b w)) in
-    rw (← step-without-jpeg d b w e, without-jpeg-as-before-W4 (r .device) (r .buffer) ws (same ∙ e))
+    rw (← step-without-jpeg d b w plain e, without-jpeg-as-before-W4 (r .device) (r .buffer) ws (plain-stays ∙ plain) (same ∙ e))
 
 -- W1. With CROP 0 FRAME rises where VSYNC blanks.
 uncropped-rises : (s : Capture) (f : Scan) (now : Syncs) → crop (s .registers .cr) ≡ false → frame-rises s f now ≡ now .vsync
@@ -182,12 +207,13 @@ unfolding step-by capture-sample-by remember-pins with-pins
 step-without-crop d b w e = let s = capture-of d in rw (edge-without-crop (remember-pins w s) (blanking s w) (pixel-data w) e)
 
 -- Every list of samples. No sample changes CROP.
-pub without-crop-as-before-W1 : (d : Device) (b ws : List ℕ) → jpeg (d .core .capture .registers .cr) ≡ false → crop (d .core .capture .registers .cr) ≡ false
+pub without-crop-as-before-W1 : (d : Device) (b ws : List ℕ) → embedded (d .core .capture .registers .cr) ≡ false → jpeg (d .core .capture .registers .cr) ≡ false → crop (d .core .capture .registers .cr) ≡ false
     → stepped-by step d b ws ≡ stepped-by step-before-W1 d b ws
 unfolding stepped-by
-without-crop-as-before-W1 d b [] e u = refl
-without-crop-as-before-W1 d b (w ∷ ws) e u =
+without-crop-as-before-W1 d b [] plain e u = refl
+without-crop-as-before-W1 d b (w ∷ ws) plain e u =
     let r = step d b w in
+    let plain-stays = same-embedded _ _ (half-setup _ _ (step-half d b w)) in
     let jpeg-stays = same-jpeg _ _ (half-setup _ _ (step-half d b w)) in
     let crop-stays = same-crop _ _ (half-setup _ _ (step-half d b w)) in
-    rw (← step-without-crop d b w u, ← step-without-jpeg d b w e, without-crop-as-before-W1 (r .device) (r .buffer) ws (jpeg-stays ∙ e) (crop-stays ∙ u))
+    rw (← step-without-crop d b w u, ← step-without-jpeg d b w plain e, without-crop-as-before-W1 (r .device) (r .buffer) ws (plain-stays ∙ plain) (jpeg-stays ∙ e) (crop-stays ∙ u))

@@ -4,15 +4,16 @@
 use mathlib.Core.Bool.{Bool, true, false, cond, not, _&&_}
 use mathlib.Core.List.{List, [], _∷_, _++_}
 use mathlib.Core.Option.{Option, none, some}
-use mathlib.Core.Path.{_≡_, refl, _∙_}
+use mathlib.Core.Path.{_≡_, refl, ap, _∙_}
 use Prim.Native.Nat.{ℕ}
 use native.Mathlib.Nat.{add-zero}
+use native.Mathlib.Omega.{arith}
 use lib.Dec.{eqb, ltb}
 use lib.ListN.{drop}
 use Rattle.bits.proofs.Booleans.{by-cond, either}
 use Rattle.registers.specs.Control.{enable}
 use Rattle.registers.specs.Map.{register-at}
-use Rattle.registers.specs.declared.Register.the-variants.{Control, Status, RawStatus, InterruptEnable, MaskedStatus, InterruptClear, WindowStart, WindowSize}
+use Rattle.registers.specs.declared.Register.the-variants.{Control, Status, RawStatus, InterruptEnable, MaskedStatus, InterruptClear, EmbeddedCode, EmbeddedUnmask, WindowStart, WindowSize}
 use Rattle.registers.specs.declared.Found.{Found}
 use Rattle.registers.specs.declared.Found.the-variants.{At, Nothing}
 use Rattle.refusals.specs.Refusals.{_⇒_, first}
@@ -20,12 +21,13 @@ use Rattle.samples.specs.Samples.{bus-grant}
 use Rattle.output.specs.Output.{OutputState, contents, with-held, holding, with-counts, with-place, count-sample, count-word, count-discarded, count-landed, fresh-output, room, Granted, no-landing, lands, oldest-lands, grant, Offered, offer, discard}
 use Rattle.rules.specs.Capture.{Captured}
 use Rattle.rules.specs.declared.Device.{Device}
-use Rattle.rules.specs.State.{output-of, fresh-of, with-cr, with-ris, with-ier, with-cwstrt, with-cwsize, with-registers}
+use Rattle.rules.specs.State.{output-of, fresh-of, with-cr, with-ris, with-ier, with-cwstrt, with-cwsize, with-escr, with-esur, with-registers}
 use Rattle.rules.specs.RegisterCalls.{write-control, clear-flags, write-register, write-at, write-refusal, write, rearmed, rearm}
-use Rattle.rules.specs.Run.{after-word, full-word, complete, after-grant, counted, step, steps, run-refusal, run, sample}
+use Rattle.rules.specs.Run.{without-word, after-word, full-word, complete, after-grant, counted, step, steps, run-refusal, run, sample}
 use Rattle.rules.specs.WellFormed.{malformed}
 use Rattle.laws.specs.Histories.{Call, a-write, a-rearming, a-run, a-sample, after, after-all, reached, Event, sampled, disabled, samplings, accepted-samplings, samplings-of, disabling-of, events, events-of-all, history}
-use Rattle.laws.specs.Ledger.{Ledger, blank, sample-entry, landing-entry, word-entry, disabling-entry, enter, enter-all, ledger, numbers}
+use Rattle.laws.specs.Ledger.{Ledger, blank, sample-entry, landing-entry, word-entry, disabling-entry, error-entry, enter, enter-all, ledger, numbers}
+use Rattle.laws.proofs.Errors.{no-word-in-error}
 use Rattle.laws.proofs.KeepsSample.{step-enable}
 
 -- Rule 1.
@@ -43,22 +45,35 @@ unfolding Landed landing-entry grant no-landing
 grant-landed granted on x buffer = either {y = no-landing x buffer} (Landed x) (granted && on) (oldest-landed x (contents x) buffer) refl
 
 -- Rule 9.
-complete-counted : (o : Option ℕ) (c : Captured) (x : OutputState)
-    → word-entry (complete o c x .packed) (numbers (x .output)) ≡ numbers (complete o c x .device .core .output)
-unfolding complete full-word after-word offer word-entry holding with-held discard count-word count-discarded with-counts
-complete-counted none c x = refl
-complete-counted (some v) c x =
+held-or-lost : (v : ℕ) (c : Captured) (x : OutputState) → let a = full-word v c x in word-entry (a .packed) (numbers (x .output)) ≡ numbers (a .device .core .output)
+unfolding full-word after-word offer word-entry holding with-held discard count-word count-discarded with-counts
+held-or-lost v c x =
     either
     (λ (r : Offered). let a = after-word (r .fate) v c (r .state) in word-entry (a .packed) (numbers (x .output)) ≡ numbers (a .device .core .output))
     (ltb (x .output .held) (x .output .depth))
     refl
     refl
 
+emptied : (rises : Bool) (x : OutputState) → error-entry rises (numbers (x .output)) ≡ numbers (cond rises (discard 0 x) x .output)
+unfolding error-entry disabling-entry discard holding with-held count-discarded with-counts
+emptied true x = rw add-zero
+emptied false x = refl
+
+complete-counted : (o : Option ℕ) (c : Captured) (x : OutputState) → (c .error ≡ true → o ≡ none)
+    → error-entry (c .error) (word-entry (complete o c x .packed) (numbers (x .output))) ≡ numbers (complete o c x .device .core .output)
+unfolding complete without-word word-entry error-entry
+complete-counted none c x alone = emptied (c .error) x
+complete-counted (some v) c x alone = ap (λ rises. error-entry rises (word-entry (full-word v c x .packed) (numbers (x .output)))) (without-error (c .error) v alone) ∙ held-or-lost v c x
+  where
+    without-error : (rises : Bool) (v : ℕ) → (rises ≡ true → some v ≡ none) → rises ≡ false
+    without-error false v h = refl
+    without-error true v h = let e = h refl in let z : _≡_ {A = ℕ} 0 1 = cc in absurd (omega arith)
+
 step-counted : (d : Device) (b : List ℕ) (w : ℕ)
     → enter (numbers (d .core .output)) (sampled (d .core .capture) w (step d b w .landing) (step d b w .packed)) ≡ numbers (step d b w .device .core .output)
 unfolding step after-grant counted count-sample with-counts enter sample-entry Landed
 step-counted d b w =
-    rw (grant-landed (bus-grant w) (enable (d .core .capture .registers .cr)) (counted (output-of d)) b) (complete-counted _ _ _)
+    rw (grant-landed (bus-grant w) (enable (d .core .capture .registers .cr)) (counted (output-of d)) b) (complete-counted _ _ _ (no-word-in-error (d .core .capture) w))
 
 -- Some events make of the numbers of d those of d′.
 abbrev Tell : List Event → Device → Device → Type 0
@@ -91,7 +106,7 @@ control-counted true x = rw add-zero
 control-counted false x = refl
 
 write-at-counted : (d : Device) (r : Found) (v : ℕ) → Tell (disabling-of d (write-at d r v)) d (write-at d r v)
-unfolding write-at write-register write-control disabling-of with-registers with-cr with-ier clear-flags with-ris with-cwstrt with-cwsize enter-all
+unfolding write-at write-register write-control disabling-of with-registers with-cr with-ier clear-flags with-ris with-cwstrt with-cwsize with-escr with-esur enter-all
 write-at-counted d Nothing v = rw (none-disabled d d refl)
 write-at-counted d (At Control) v = control-counted (enable (d .core .capture .registers .cr) && not (enable v)) (output-of d)
 write-at-counted d (At Status) v = rw (none-disabled d _ refl)
@@ -99,6 +114,8 @@ write-at-counted d (At RawStatus) v = rw (none-disabled d _ refl)
 write-at-counted d (At InterruptEnable) v = rw (none-disabled d _ refl)
 write-at-counted d (At MaskedStatus) v = rw (none-disabled d _ refl)
 write-at-counted d (At InterruptClear) v = rw (none-disabled d _ refl)
+write-at-counted d (At EmbeddedCode) v = rw (none-disabled d _ refl)
+write-at-counted d (At EmbeddedUnmask) v = rw (none-disabled d _ refl)
 write-at-counted d (At WindowStart) v = rw (none-disabled d _ refl)
 write-at-counted d (At WindowSize) v = rw (none-disabled d _ refl)
 

@@ -28,7 +28,7 @@ step-depth : (d : Device) (b : List ℕ) (w : ℕ) → Has (d .core .output .dep
 unfolding step after-grant counted count-sample with-counts discard holding with-held count-discarded
 step-depth d b w =
     let granted = grant-untouched (bus-grant w) _ (counted (output-of d)) b .depth in
-    by-word (Has (d .core .output .depth)) _ _ _ granted (λ v. offer-untouched v _ .depth ∙ granted) (λ v. offer-untouched v _ .depth ∙ granted)
+    by-word (Has (d .core .output .depth)) _ _ _ granted (λ e. granted) (λ v. offer-untouched v _ .depth ∙ granted) (λ v. offer-untouched v _ .depth ∙ granted)
 
 steps-depth : (d : Device) (b ws : List ℕ) → Has (d .core .output .depth) (steps d b ws .device)
 unfolding steps

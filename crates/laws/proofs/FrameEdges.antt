@@ -29,6 +29,17 @@ Told-in (Open taken f) n cropped blanked h =
 abbrev pub Told : Capture → FrameHistory → Type 0
 Told s h = Told-in (s .frame) (lines-to-window-end (s .registers)) (crop (s .registers .cr)) (s .syncs .hsync) h
 
+-- At most once, whether a frame is open or not. Where none is, that is all that is told.
+told-once : (f : Frame) (n : ℕ) (cropped blanked : Bool) (h : FrameHistory) → Told-in f n cropped blanked h → h .due ≤ 1
+told-once Closed n cropped blanked h told = told
+told-once (Open taken f) n cropped blanked h told = rw (told .1) (either (λ k. k ≤ 1) (taken && (cropped && h .ended)) (omega arith) (omega arith))
+
+pub once : (s : Capture) (h : FrameHistory) → Told s h → h .due ≤ 1
+once s h told = told-once (s .frame) _ _ _ h told
+
+pub none-told : (s : Capture) (h : FrameHistory) → s .frame ≡ Closed → h .due ≤ 1 → Told s h
+none-told s h e le = rw e le
+
 -- Rule 3 changes RIS alone.
 abbrev pub with-flags : ℕ → Capture → Capture
 with-flags x s = with-registers (with-ris x (s .registers)) s
@@ -56,6 +67,11 @@ sync-flags-flagged s now =
     (either (Flagged s) (not (s .syncs .vsync) && now .vsync) (raise-flagged 3 s) (none-flagged s))
     (either (Flagged (vsync-flag s now)) (not (vsync-flag s now .syncs .hsync) && now .hsync) (raise-flagged 4 _) (none-flagged _))
 
+-- And where its flags rise with CAPTURE 1 alone (W6).
+pub flags-flagged : (b : Bool) (u : Capture) (now : Syncs) → Flagged u (cond b (sync-flags u now) u)
+flags-flagged true u now = sync-flags-flagged u now
+flags-flagged false u now = none-flagged u
+
 abbrev pub blanks : Bool → Bool → Syncs
 blanks hsync vsync = record { hsync = hsync; vsync = vsync }
 
@@ -77,6 +93,10 @@ rest-closed : (f : Frame) (s : Capture) (hsync : Bool) (x : ℕ) → s .frame �
 unfolding frame-closes end-of frame-start pixel-edge pixel-in no-word with-syncs close-frame with-partial with-frame
 rest-closed Closed s hsync x e = rw (e, no-start Closed hsync _)
 rest-closed (Open taken f) s hsync x e = rw (e, no-start Closed hsync _)
+
+pub at-edge-closed : (s : Capture) (hsync : Bool) (x : ℕ) → at-edge s (blanks hsync true) x .state .frame ≡ Closed
+unfolding at-edge frame-end
+at-edge-closed s hsync x = rest-closed (sync-flags s (blanks hsync true) .frame) (sync-flags s (blanks hsync true)) hsync x refl
 
 -- FRAME has been due in a taken frame that VSYNC ends.
 pub ends-risen : (taken : Bool) (f : Scan) (s : Capture) (hsync : Bool) (h : FrameHistory) → s .frame ≡ Open taken f → Told s h

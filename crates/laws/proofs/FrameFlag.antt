@@ -1,18 +1,23 @@
--- FRAME after a sample is FRAME before it, or raised because it was due by rule 4 and no word was lost (`frame-rises-by-rule-4`, W4): nothing else raises it, and nothing clears it.
+-- FRAME after a sample is FRAME before it, or raised because it was due by rule 4 and no word was lost (`frame-rises-by-rule-4`, W4), with ESS 1 too, by codes (W6): nothing else raises
+-- it, and nothing clears it.
 -- The idea: rule 3 and an overrun raise other flags, and what is left leaves RIS. Assumes nothing.
 use mathlib.Core.Bool.{Bool, true, false, cond, not, _&&_, _||_}
 use mathlib.Core.List.{List}
 use mathlib.Core.Option.{Option, none, some}
-use mathlib.Core.Path.{_≡_, refl, sym, _∙_}
-use Prim.Native.Nat.{ℕ, _+_, _/_, _%_, _^_}
+use mathlib.Core.Path.{_≡_, refl, sym, ap, _∙_}
+use Prim.Native.Nat.{ℕ, _+_}
 use native.Mathlib.Omega.{arith}
 use lib.Dec.{ltb}
-use borrow.Author.Tests.{eqb-false, eq-eqb}
 use Rattle.bits.specs.Bits.{bit}
-use Rattle.bits.proofs.Booleans.{or-true, or-unit, and-unit, and-zero, by-cond, either}
-use Rattle.registers.specs.Control.{snapshot, edm}
+use Rattle.bits.proofs.Booleans.{or-true, or-unit, and-unit, and-zero, either}
+use Rattle.registers.specs.Control.{capture, embedded, snapshot, edm}
 use Rattle.packing.specs.Packing.{per-word}
 use Rattle.samples.specs.Samples.{pixel-data}
+use Rattle.codes.specs.declared.Waiting.the-variants.{Zero}
+use Rattle.codes.specs.declared.Meaning.{Meaning}
+use Rattle.codes.specs.declared.Meaning.the-variants.{FrameEnd, FrameStart, LineEnd, LineStart, Unmatched}
+use Rattle.codes.specs.Bytes.{waiting-count, is-code, waiting-after, released}
+use Rattle.codes.specs.Meaning.{meaning, by-line-starts}
 use Rattle.output.specs.declared.Fate.{Fate}
 use Rattle.output.specs.declared.Fate.the-variants.{Held, Lost}
 use Rattle.output.specs.Output.{OutputState, offer}
@@ -22,20 +27,19 @@ use Rattle.rules.specs.declared.Frame.{Frame}
 use Rattle.rules.specs.declared.Frame.the-variants.{Closed, Open}
 use Rattle.rules.specs.declared.Capture.{Capture}
 use Rattle.rules.specs.declared.Device.{Device}
-use Rattle.rules.specs.State.{with-cr, with-ris, with-registers, with-pins, with-syncs, with-frame, with-rate, with-partial, raised, raise, clear-capture, close-frame}
-use Rattle.rules.specs.Capture.{Captured, no-word, flagged, working-edge, enabled, remember-pins, blanking, any-blanks, vsync-flag, line-flag, sync-flags, window-ended, hsync-after-window, frame-rises, frame-due, end-of, frame-closes, frame-end, starts, open-frame, start-of, frame-start, next-pixel, captured, pack, pixel, pixel-in, pixel-edge, at-edge, capture-sample}
+use Rattle.rules.specs.State.{is-open, not-blanking, with-waiting, with-cr, with-ris, with-registers, with-pins, with-syncs, with-frame, with-rate, with-partial, raise, clear-capture, close-frame}
+use Rattle.rules.specs.Capture.{Captured, no-word, flagged, working-edge, enabled, remember-pins, blanking, any-blanks, vsync-flag, line-flag, sync-flags, window-ended, hsync-after-window, frame-rises, frame-due, end-of, frame-closes, frame-end, starts, open-frame, start-of, frame-start, next-pixel, captured, pack, pixel, pixel-in, pixel-edge, at-edge}
+use Rattle.rules.specs.Codes.{in-line, coded-syncs, seeks, arrived, byte-in, taken-out, frame-opens, line-opens, closes, errs, line-start, obeyed, sought, at-code, at-byte, line-ended, frame-ended}
+use Rattle.rules.specs.Sample.{byte-of, edge, capture-sample}
 use Rattle.rules.specs.Run.{lose-frame, after-word, full-word, complete, after-grant, step}
-use Rattle.laws.specs.FrameHistory.{is-lost}
-use Rattle.laws.proofs.RegisterValues.{raised-other}
+use Rattle.laws.specs.FrameHistory.{byte-due, due-at, is-lost}
+use Rattle.laws.proofs.RegisterValues.{raised-other, raised-up}
 use Rattle.laws.proofs.FrameEdges.{with-flags, sync-flags-flagged}
+use Rattle.laws.proofs.FrameCodes.{each-same, due-by-codes, pins-byte-due}
 
 -- FRAME is 1.
 abbrev flag : Capture → Bool
 flag s = bit 0 (s .registers .ris)
-
-raised-frame : (x : ℕ) → bit 0 (raised 0 x) ≡ true
-unfolding raised
-raised-frame x = by-cond (λ y. bit 0 y ≡ true) (bit 0 x) _ _ (λ on. on) (λ off. let low = eqb-false (x / 2 ^ 0 % 2) 1 off in eq-eqb ((x + 2 ^ 0) / 2 ^ 0 % 2) 1 (omega arith))
 
 -- Rule 3.
 sync-flags-other : (s : Capture) (now : Syncs) → flag (sync-flags s now) ≡ flag s
@@ -53,7 +57,7 @@ unfolding flagged raise with-registers with-ris
 flagged-flag c = go (c .due)
   where
     go : (due : Bool) → flag (cond due (raise 0 (c .state)) (c .state)) ≡ flag (c .state) || due
-    go true = raised-frame (c .state .registers .ris) ∙ sym (or-true (flag (c .state)))
+    go true = raised-up 0 (c .state .registers .ris) ∙ sym (or-true (flag (c .state)))
     go false = sym (or-unit (flag (c .state)))
 
 -- The frame's end, rules 5 to 8, and the syncs remembered leave RIS.
@@ -95,19 +99,83 @@ at-edge-due s p now x =
     let flagged = sync-flags-flagged (with-pins p s) now in
     rw (flagged .is) (same-due (s .frame) s (flagged .flags) p now)
 
+-- A byte, with ESS 1, leaves FRAME too.
+closes-flag : (s : Capture) (now : Syncs) → flag (closes s now .state) ≡ flag s
+unfolding closes with-syncs
+closes-flag s now =
+    let u = with-syncs (coded-syncs s) s in
+    ap (bit 0) (frame-closes-ris _ now) ∙ either (λ (t : Capture). flag t ≡ flag s) (capture (s .registers .cr)) (sync-flags-other u now) refl
+
+errs-flag : (s : Capture) → flag (errs s .state) ≡ flag s
+unfolding errs close-frame with-frame with-partial with-syncs raise with-registers with-ris
+errs-flag s = raised-other 0 2 (s .registers .ris) (omega arith)
+
+opens-flag : (s : Capture) → flag (frame-opens s) ≡ flag s
+unfolding frame-opens with-syncs with-rate with-frame
+opens-flag s = either (λ (t : Capture). flag (with-syncs not-blanking t) ≡ flag s) (capture (s .registers .cr)) refl refl
+
+line-start-flag : (f : Frame) (s : Capture) → flag (line-start f s .state) ≡ flag s
+unfolding line-start no-word line-opens with-syncs with-frame
+line-start-flag Closed s = either (λ (c : Captured). flag (c .state) ≡ flag s) (by-line-starts (s .registers .escr)) (opens-flag s) (errs-flag s)
+line-start-flag (Open taken f) s = either (λ (c : Captured). flag (c .state) ≡ flag s) (in-line s) (errs-flag s) refl
+
+obeyed-flag : (m : Meaning) (s : Capture) → flag (obeyed m s .state) ≡ flag s
+unfolding obeyed no-word
+obeyed-flag FrameEnd s = either (λ (c : Captured). flag (c .state) ≡ flag s) (is-open (s .frame)) (closes-flag s frame-ended) refl
+obeyed-flag FrameStart s = either (λ (c : Captured). flag (c .state) ≡ flag s) (is-open (s .frame)) (errs-flag s) (opens-flag s)
+obeyed-flag LineEnd s = either (λ (c : Captured). flag (c .state) ≡ flag s) (in-line s) (closes-flag s line-ended) (errs-flag s)
+obeyed-flag LineStart s = line-start-flag (s .frame) s
+obeyed-flag Unmatched s = refl
+
+sought-flag : (m : Meaning) (s : Capture) → flag (sought m s) ≡ flag s
+unfolding sought with-syncs
+sought-flag FrameEnd s = either (λ (t : Capture). flag t ≡ flag s) (by-line-starts (s .registers .escr)) refl refl
+sought-flag FrameStart s = opens-flag s
+sought-flag LineEnd s = refl
+sought-flag LineStart s = refl
+sought-flag Unmatched s = refl
+
+taken-out-flag : (f : Frame) (s : Capture) → flag (taken-out f s) ≡ flag s
+unfolding taken-out with-frame
+taken-out-flag Closed s = refl
+taken-out-flag (Open taken f) s = either (λ (t : Capture). flag t ≡ flag s) (s .syncs .hsync) refl refl
+
+byte-in-flag : (f : Frame) (s : Capture) (x : ℕ) → flag (byte-in f s x .state) ≡ flag s
+unfolding byte-in no-word with-waiting with-frame
+byte-in-flag Closed s x = refl
+byte-in-flag (Open taken f) s x =
+    either (λ (c : Captured). flag (c .state) ≡ flag s) (s .syncs .hsync) refl
+    (rw (each-same _ taken (arrived f) (released (s .waiting) x) (waiting-count (waiting-after (s .waiting) x)) .registers))
+
+at-byte-flag : (s : Capture) (x : ℕ) → flag (at-byte s x .state) ≡ flag s
+unfolding at-byte at-code no-word with-waiting
+at-byte-flag s x =
+    let t = with-waiting Zero (taken-out (s .frame) s) in
+    let m = meaning (s .registers .escr) (s .registers .esur) x in
+    let P : Captured → Type 0 = λ c. flag (c .state) ≡ flag s in
+    either P (is-code (s .waiting))
+    (either P (seeks t) (sought-flag m t ∙ taken-out-flag (s .frame) s) (obeyed-flag m t ∙ taken-out-flag (s .frame) s))
+    (byte-in-flag (s .frame) s x)
+
 -- A sample.
 sample-flag : (s : Capture) (w : ℕ) → flag (capture-sample s w .state) ≡ flag s
-unfolding capture-sample no-word remember-pins with-pins
-sample-flag s w = either (λ (c : Captured). flag (c .state) ≡ flag s) (working-edge s w && enabled s) (at-edge-flag (remember-pins w s) (blanking s w) (pixel-data w)) refl
+unfolding capture-sample edge no-word remember-pins with-pins
+sample-flag s w =
+    let P : Captured → Type 0 = λ c. flag (c .state) ≡ flag s in
+    either P (working-edge s w && enabled s)
+    (either P (embedded (s .registers .cr)) (at-byte-flag (remember-pins w s) (byte-of w)) (at-edge-flag (remember-pins w s) (blanking s w) (pixel-data w)))
+    refl
 
-sample-due : (s : Capture) (w : ℕ) → capture-sample s w .due ≡ (working-edge s w && enabled s) && frame-due (s .frame) s (blanking s w)
-unfolding capture-sample no-word remember-pins
-sample-due s w = go (working-edge s w && enabled s)
+pub sample-due : (s : Capture) (w : ℕ) → capture-sample s w .due ≡ due-at s w
+unfolding capture-sample edge no-word remember-pins due-at
+sample-due s w = go (working-edge s w && enabled s) (embedded (s .registers .cr))
   where
-    go : (goes-on : Bool) → cond goes-on (at-edge (remember-pins w s) (blanking s w) (pixel-data w)) (no-word (remember-pins w s)) .due
-        ≡ goes-on && frame-due (s .frame) s (blanking s w)
-    go true = at-edge-due s _ (blanking s w) (pixel-data w)
-    go false = refl
+    go : (goes-on coded : Bool)
+        → cond goes-on (cond coded (at-byte (remember-pins w s) (byte-of w)) (at-edge (remember-pins w s) (blanking s w) (pixel-data w))) (no-word (remember-pins w s)) .due
+        ≡ goes-on && cond coded (byte-due s (byte-of w)) (frame-due (s .frame) s (blanking s w))
+    go true true = due-by-codes (remember-pins w s) (byte-of w) ∙ pins-byte-due s _ (byte-of w)
+    go true false = at-edge-due s _ (blanking s w) (pixel-data w)
+    go false coded = refl
 
 -- Rule 9.
 lose-frame-other : (s : Capture) → flag (lose-frame s) ≡ flag s
@@ -130,7 +198,7 @@ complete-flag (some v) c x = after-word-flag (offer v x .fate) v c (offer v x .s
 
 pub frame-rises-by-rule-4 : (d : Device) (b : List ℕ) (w : ℕ)
     → let s = d .core .capture in let r = step d b w in bit 0 (r .device .core .capture .registers .ris)
-    ≡ bit 0 (s .registers .ris) || ((working-edge s w && enabled s) && frame-due (s .frame) s (blanking s w) && not (is-lost (r .packed)))
+    ≡ bit 0 (s .registers .ris) || (due-at s w && not (is-lost (r .packed)))
 unfolding step after-grant
 frame-rises-by-rule-4 d b w =
     let s = d .core .capture in

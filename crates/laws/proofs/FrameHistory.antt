@@ -1,6 +1,7 @@
 -- FRAME and the window's last line (request W1), over every depth and every list of calls, with writes between the samples: the test `window-ended` is what the history of the
--- open frame says (`window-ended-is-history`), and FRAME is due at most once in a frame (`frame-due-once`), just once in a taken one that rule 4 ends (`frame-due-at-the-end`).
--- The idea: each sample and each write keeps the history told (`FrameEdges`); no write changes window or CROP while a frame is open. Assumes nothing.
+-- open frame says (`window-ended-is-history`), and FRAME is due at most once in a frame (`frame-due-once`), just once in a taken one that
+-- rule 4 ends (`frame-due-at-the-end`; with ESS 1, W6, `frame-due-at-the-end-code`).
+-- The idea: each sample and each write keeps the history told (`FrameEdges`, `FrameCodes`); no write changes window or CROP while a frame is open. Assumes nothing.
 use mathlib.Core.Bool.{Bool, true, false, cond, not, _&&_}
 use mathlib.Core.List.{List, [], _∷_, _++_}
 use mathlib.Core.Option.{Option}
@@ -11,9 +12,12 @@ use lib.Dec.{eqb}
 use lib.ListN.{drop}
 use borrow.Author.Tests.{eqb-true}
 use Rattle.bits.proofs.Booleans.{and-unit, by-cond, either}
-use Rattle.registers.specs.Control.{enable}
+use Rattle.registers.specs.Control.{embedded, enable}
+use Rattle.codes.specs.declared.Meaning.the-variants.{FrameEnd}
+use Rattle.codes.specs.Bytes.{is-code}
+use Rattle.codes.specs.Meaning.{meaning}
 use Rattle.registers.specs.Map.{register-at}
-use Rattle.registers.specs.declared.Register.the-variants.{Control, Status, RawStatus, InterruptEnable, MaskedStatus, InterruptClear, WindowStart, WindowSize}
+use Rattle.registers.specs.declared.Register.the-variants.{Control, Status, RawStatus, InterruptEnable, MaskedStatus, InterruptClear, EmbeddedCode, EmbeddedUnmask, WindowStart, WindowSize}
 use Rattle.registers.specs.declared.Found.{Found}
 use Rattle.registers.specs.declared.Found.the-variants.{At, Nothing}
 use Rattle.refusals.specs.Refusals.{_⇒_, first}
@@ -28,31 +32,23 @@ use Rattle.rules.specs.declared.Frame.{Frame}
 use Rattle.rules.specs.declared.Frame.the-variants.{Closed, Open}
 use Rattle.rules.specs.declared.Capture.{Capture}
 use Rattle.rules.specs.declared.Device.{Device}
-use Rattle.rules.specs.State.{fresh-of, fresh-capture, raise, with-cr, with-ris, with-ier, with-cwstrt, with-cwsize, with-registers, with-pins, with-syncs, with-frame, with-rate, with-partial, close-frame}
-use Rattle.rules.specs.Capture.{Captured, no-word, working-edge, enabled, remember-pins, blanking, window-ended, hsync-after-window, frame-rises, frame-due, starts, flagged, capture-sample, at-edge}
+use Rattle.rules.specs.State.{fresh-of, fresh-capture, raise, with-cr, with-ris, with-ier, with-cwstrt, with-cwsize, with-escr, with-esur, with-registers, with-pins, with-syncs, with-frame, with-rate, with-partial, with-waiting, close-frame}
+use Rattle.rules.specs.Capture.{Captured, no-word, working-edge, enabled, remember-pins, blanking, window-ended, hsync-after-window, frame-rises, frame-due, starts, flagged, at-edge}
+use Rattle.rules.specs.Codes.{at-byte}
+use Rattle.rules.specs.Sample.{byte-of, edge, capture-sample}
 use Rattle.rules.specs.RegisterCalls.{changes-setup, fixed-at, register-tests, enabling, disabling, switch-enable, capture-rises, switch-capture, write-control, clear-flags, write-register, write-at, write-refusal, write, rearmed, rearm}
 use Rattle.rules.specs.Run.{Packed, lose-frame, after-grant, step, steps, run-refusal, run, sample}
 use Rattle.rules.specs.WellFormed.{malformed}
 use Rattle.rules.proofs.WellFormed.{CaptureOk, facts}
 use Rattle.laws.specs.Histories.{Call, a-write, a-rearming, a-run, a-sample, after, after-all, reached, Event, sampled, samplings, accepted-samplings, samplings-of, disabling-of, events, events-of-all, history}
-use Rattle.laws.specs.FrameHistory.{FrameHistory, no-history, starts-frame, edge-entry, frame-entry, frame-entries, frame-history}
+use Rattle.laws.specs.FrameHistory.{FrameHistory, no-history, starts-frame, edge-entry, byte-entry, sampling-entry, frame-entry, frame-entries, frame-history}
 use Rattle.laws.proofs.RegisterValues.{same-crop}
 use Rattle.laws.proofs.KeepsSample.{by-word}
 use Rattle.laws.proofs.WriteControl.{closed-frame, setup-stays}
 use Rattle.laws.proofs.Keeps.{fresh-well-formed}
 use Rattle.laws.proofs.Conservation.{call-keeps}
-use Rattle.laws.proofs.FrameEdges.{Told, Told-in, blanks, at-edge-told, ends-risen}
-
--- At most once, whether a frame is open or not. Where none is, that is all that is told.
-told-once : (f : Frame) (n : ℕ) (cropped blanked : Bool) (h : FrameHistory) → Told-in f n cropped blanked h → h .due ≤ 1
-told-once Closed n cropped blanked h told = told
-told-once (Open taken f) n cropped blanked h told = rw (told .1) (either (λ k. k ≤ 1) (taken && (cropped && h .ended)) (omega arith) (omega arith))
-
-once : (s : Capture) (h : FrameHistory) → Told s h → h .due ≤ 1
-once s h told = told-once (s .frame) _ _ _ h told
-
-none-told : (s : Capture) (h : FrameHistory) → s .frame ≡ Closed → h .due ≤ 1 → Told s h
-none-told s h e le = rw e le
+use Rattle.laws.proofs.FrameCodes.{pins-byte-entry, at-byte-told, frame-end-risen}
+use Rattle.laws.proofs.FrameEdges.{Told, once, none-told, blanks, at-edge-told, ends-risen}
 
 -- A sample. The remembered levels play no part.
 same-entry : (f : Frame) (s : Capture) (p : Pins) (now : Syncs) (h : FrameHistory) → s .frame ≡ f → edge-entry h (with-pins p s) now ≡ edge-entry h s now
@@ -60,14 +56,16 @@ unfolding edge-entry starts-frame frame-due with-pins window-ended hsync-after-w
 same-entry Closed s p now h e = rw e
 same-entry (Open taken f) s p now h e = rw e
 
-sample-told : (s : Capture) (w : ℕ) (h : FrameHistory) → Told s h
-    → Told (capture-sample s w .state) (cond (working-edge s w && enabled s) (edge-entry h s (blanking s w)) h)
-unfolding capture-sample no-word remember-pins with-pins
-sample-told s w h told = go (working-edge s w && enabled s)
+sample-told : (s : Capture) (w : ℕ) (h : FrameHistory) → Told s h → Told (capture-sample s w .state) (sampling-entry h s w)
+unfolding capture-sample edge no-word remember-pins with-pins sampling-entry
+sample-told s w h told = go (working-edge s w && enabled s) (embedded (s .registers .cr))
   where
-    go : (goes-on : Bool) → Told (cond goes-on (at-edge (remember-pins w s) (blanking s w) (pixel-data w)) (no-word (remember-pins w s)) .state) (cond goes-on (edge-entry h s (blanking s w)) h)
-    go true = rw (← same-entry (s .frame) s (remember-pins w s .pins) (blanking s w) h refl) (at-edge-told (remember-pins w s) (blanking s w) (pixel-data w) h told)
-    go false = told
+    go : (goes-on coded : Bool)
+        → Told (cond goes-on (cond coded (at-byte (remember-pins w s) (byte-of w)) (at-edge (remember-pins w s) (blanking s w) (pixel-data w))) (no-word (remember-pins w s)) .state)
+        (cond goes-on (cond coded (byte-entry h s (byte-of w)) (edge-entry h s (blanking s w))) h)
+    go true true = rw (← pins-byte-entry s (remember-pins w s .pins) (byte-of w) h) (at-byte-told (remember-pins w s) (byte-of w) h told)
+    go true false = rw (← same-entry (s .frame) s (remember-pins w s .pins) (blanking s w) h refl) (at-edge-told (remember-pins w s) (blanking s w) (pixel-data w) h told)
+    go false coded = told
 
 -- FRAME plays no part.
 flagged-told : (c : Captured) (h : FrameHistory) → Told (c .state) h → Told (flagged c) h
@@ -79,10 +77,10 @@ step-told : (d : Device) (b : List ℕ) (w : ℕ) (h : FrameHistory) (landing : 
 unfolding step after-grant frame-entry lose-frame close-frame with-frame with-partial
 step-told d b w h landing packed told =
     let s = d .core .capture in
-    let h′ = cond (working-edge s w && enabled s) (edge-entry h s (blanking s w)) h in
+    let h′ = sampling-entry h s w in
     let after = sample-told s w h told in
     let flagged = flagged-told (capture-sample s w) h′ after in
-    by-word (λ (e : Device). Told (e .core .capture) h′) _ _ _ flagged (λ v. flagged) (λ v. once (capture-sample s w .state) h′ after)
+    by-word (λ (e : Device). Told (e .core .capture) h′) _ _ _ flagged (λ e. flagged) (λ v. flagged) (λ v. once (capture-sample s w .state) h′ after)
 
 steps-told : (d : Device) (b ws : List ℕ) (h : FrameHistory) → Told (d .core .capture) h
     → Told (steps d b ws .device .core .capture) (frame-entries h (samplings d b ws))
@@ -93,7 +91,7 @@ steps-told d b (w ∷ ws) h told = steps-told (step d b w .device) (step d b w .
 -- A write of CR: where ENABLE is and stays 1, CROP stays; else no frame is open after it.
 control-told : {n : ℕ} (s : Capture) (v : ℕ) (h : FrameHistory) → CaptureOk n s → enable (s .registers .cr) && changes-setup (s .registers .cr) v ≡ false
     → Told s h → Told (write-control v s) h
-unfolding write-control switch-capture switch-enable enabling disabling close-frame with-registers with-cr with-syncs with-frame with-rate with-partial
+unfolding write-control switch-capture switch-enable enabling disabling close-frame with-registers with-cr with-syncs with-frame with-rate with-partial with-waiting
 control-told s v h ok free told =
     let P : Capture → Type 0 = λ t. Told (with-registers (with-cr v (t .registers)) t) h in
     let rated : (t : Capture) → P t → P (switch-capture (capture-rises v s) t) = λ t p. either P (capture-rises v s) p p in
@@ -106,7 +104,7 @@ control-told s v h ok free told =
     (λ falls. once s h told))
     (λ off. either P (enable v) (once s h told) (none-told (with-registers (with-cr v (s .registers)) s) h (closed-frame (s .frame) (ok .idle off .0)) (once s h told))))
 
--- A write of the window, with ENABLE 0 alone: no frame is open.
+-- A write of the window or of the codes, with ENABLE 0 alone: no frame is open.
 window-told : {n : ℕ} (s : Capture) (r : Registers) (h : FrameHistory) → CaptureOk n s → enable (s .registers .cr) && true ≡ false → Told s h → Told (with-registers r s) h
 unfolding with-registers
 window-told s r h ok free told =
@@ -123,6 +121,8 @@ write-at-told d (At RawStatus) v h ok free told = told
 write-at-told d (At InterruptEnable) v h ok free told = told
 write-at-told d (At MaskedStatus) v h ok free told = told
 write-at-told d (At InterruptClear) v h ok free told = told
+write-at-told d (At EmbeddedCode) v h ok free told = window-told (d .core .capture) (with-escr v (d .core .capture .registers)) h ok free told
+write-at-told d (At EmbeddedUnmask) v h ok free told = window-told (d .core .capture) (with-esur v (d .core .capture .registers)) h ok free told
 write-at-told d (At WindowStart) v h ok free told = window-told (d .core .capture) (with-cwstrt v (d .core .capture .registers)) h ok free told
 write-at-told d (At WindowSize) v h ok free told = window-told (d .core .capture) (with-cwsize v (d .core .capture .registers)) h ok free told
 
@@ -187,13 +187,22 @@ module _ (depth : ℕ) (sound : bad-depth depth ≡ false) (cs : List Call) wher
   pub frame-due-once : frame-history (history depth cs) .due ≤ 1
   frame-due-once = once (reached depth cs .core .capture) (frame-history (history depth cs)) history-told
 
-  -- And in a taken frame that VSYNC ends it has been due just once by then, there or before.
+  -- And in a taken frame that VSYNC ends it has been due just once by then, there or before; and so in one that a frame end code ends (W6).
   pub frame-due-at-the-end : (f : Scan) (w : ℕ) (landing : Option ℕ) (packed : Packed)
-      → let s = reached depth cs .core .capture in s .frame ≡ Open true f → working-edge s w && enabled s ≡ true → blanking s w .vsync ≡ true
+      → let s = reached depth cs .core .capture in embedded (s .registers .cr) ≡ false → s .frame ≡ Open true f → working-edge s w && enabled s ≡ true → blanking s w .vsync ≡ true
       → frame-entry (frame-history (history depth cs)) (sampled s w landing packed) .due ≡ 1
-  unfolding frame-entry
-  frame-due-at-the-end f w landing packed e goes-on ends =
+  unfolding frame-entry sampling-entry
+  frame-due-at-the-end f w landing packed plain e goes-on ends =
       let s = reached depth cs .core .capture in
       let h = frame-history (history depth cs) in
       let now : blanking s w ≡ blanks (blanking s w .hsync) true = λ i. record { hsync = blanking s w .hsync; vsync = ends i } in
-      rw (goes-on, now) (ends-risen true f s (blanking s w .hsync) h e history-told)
+      rw (goes-on, plain, now) (ends-risen true f s (blanking s w .hsync) h e history-told)
+
+  pub frame-due-at-the-end-code : (f : Scan) (w : ℕ) (landing : Option ℕ) (packed : Packed)
+      → let s = reached depth cs .core .capture in embedded (s .registers .cr) ≡ true → s .frame ≡ Open true f → working-edge s w && enabled s ≡ true
+      → is-code (s .waiting) ≡ true → meaning (s .registers .escr) (s .registers .esur) (byte-of w) ≡ FrameEnd
+      → frame-entry (frame-history (history depth cs)) (sampled s w landing packed) .due ≡ 1
+  unfolding frame-entry sampling-entry byte-entry
+  frame-due-at-the-end-code f w landing packed coded e goes-on last ends =
+      let s = reached depth cs .core .capture in
+      rw (goes-on, coded, last, ends) (frame-end-risen true f s (frame-history (history depth cs)) e history-told)

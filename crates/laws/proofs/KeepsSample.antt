@@ -14,19 +14,20 @@ use Rattle.output.specs.declared.Fate.{Fate}
 use Rattle.output.specs.declared.Fate.the-variants.{Held, Lost}
 use Rattle.output.specs.Output.{holding, with-held, contents, count-word, count-discarded, OutputState, count-sample, with-counts, grant, Offered, offer, discard}
 use Rattle.output.specs.WellFormed.{Laid}
-use Rattle.output.proofs.WellFormed.{OutputOk, enabling-ok, count-sample-ok, grant-ok, held-ok, lost-ok}
+use Rattle.output.proofs.WellFormed.{OutputOk, enabling-ok, count-sample-ok, grant-ok, held-ok, lost-ok, discard-ok}
 use Rattle.output.proofs.Untouched.{grant-untouched, offer-untouched, discard-laid}
 use Rattle.rules.specs.declared.Capture.{Capture}
 use Rattle.rules.specs.declared.Device.{Device}
 use Rattle.rules.specs.State.{device, capture-of, output-of, with-cr, with-ris, with-registers, with-pins, with-frame, with-partial, raise, clear-capture, close-frame}
-use Rattle.rules.specs.Capture.{Captured, flagged, remember-pins, capture-sample, next-capture}
-use Rattle.rules.specs.Run.{lose-frame, after-word, full-word, complete, after-grant, counted, step}
+use Rattle.rules.specs.Capture.{Captured, flagged, remember-pins}
+use Rattle.rules.specs.Sample.{capture-sample, next-capture}
+use Rattle.rules.specs.Run.{lose-frame, after-word, full-word, without-word, complete, after-grant, counted, step}
 use Rattle.bits.proofs.Booleans.{by-cond, either}
 use Rattle.rules.proofs.WellFormed.{CaptureOk, WellFormed}
 use Rattle.laws.proofs.RegisterValues.{lowered-half, half-enable}
 use Rattle.laws.proofs.CaptureParts.{raise-ok, clear-capture-ok, close-frame-ok}
 use Rattle.laws.proofs.Kept.{flagged-kept}
-use Rattle.laws.proofs.Moved.{sample-moved, sample-ok, word-enabled, next-half, next-enable}
+use Rattle.laws.proofs.Sampled.{sample-left, sample-ok, word-enabled, next-half, next-enable}
 
 -- Rule 9: OVR rises, the frame closes, and with CM 1 CAPTURE is cleared.
 lose-frame-ok : {n : ℕ} {s : Capture} → CaptureOk n s → CaptureOk n (lose-frame s)
@@ -47,8 +48,11 @@ full-word-ok v c x more on h q =
 complete-ok : (o : Option ℕ) (c : Captured) (x : OutputState) → x .output .counts .completed < x .output .counts .samples
     → ((v : ℕ) → o ≡ some v → enable (flagged c .registers .cr) ≡ true)
     → CaptureOk (x .output .counts .samples) (c .state) → OutputOk (enable (flagged c .registers .cr)) x → WellFormed (complete o c x .device)
-unfolding complete
-complete-ok none c x more on h q = record { capture = flagged-kept c .ok _ h; output = q }
+unfolding complete without-word discard holding with-held count-discarded with-counts
+complete-ok none c x more on h q =
+    either (λ (y : OutputState). WellFormed (device (flagged c) y)) (c .error)
+    (record { capture = flagged-kept c .ok _ h; output = discard-ok q 0 (x .output) (q .depth) (q .completed) (q .place) (omega (arith, q .equation)) })
+    (record { capture = flagged-kept c .ok _ h; output = q })
 complete-ok (some v) c x more on h q = full-word-ok v c x more (on v refl) h (rw (on v refl) at q)
 
 pub step-keeps : (d : Device) (buffer : List ℕ) (w : ℕ) → WellFormed d → WellFormed (step d buffer w .device)
@@ -67,12 +71,13 @@ step-keeps d buffer w h =
     (rw (leaves .samples) (sample-ok w (h .capture)))
     (enabling-ok q (λ off. sym same ∙ off))
 
--- What holds of the device without a full word, with one that is held and with one that is lost, holds after rule 9.
-pub by-word : (P : Device → Type 0) (o : Option ℕ) (c : Captured) (x : OutputState) → P (device (flagged c) x) → ((v : ℕ) → P (device (flagged c) (offer v x .state)))
+-- What holds of the device without a full word, where ERR rose (W6), with a word that is held and with one that is lost, holds after rule 9.
+pub by-word : (P : Device → Type 0) (o : Option ℕ) (c : Captured) (x : OutputState) → P (device (flagged c) x) → (c .error ≡ true → P (device (flagged c) (discard 0 x)))
+    → ((v : ℕ) → P (device (flagged c) (offer v x .state)))
     → ((v : ℕ) → P (device (lose-frame (c .state)) (discard 1 (offer v x .state)))) → P (complete o c x .device)
-unfolding complete full-word after-word
-by-word P none c x nothing held lost = nothing
-by-word P (some v) c x nothing held lost = go (offer v x .fate)
+unfolding complete full-word after-word without-word
+by-word P none c x nothing emptied held lost = by-cond (λ (y : OutputState). P (device (flagged c) y)) (c .error) _ _ emptied (λ e. nothing)
+by-word P (some v) c x nothing emptied held lost = go (offer v x .fate)
   where
     go : (f : Fate) → P (after-word f v c (offer v x .state) .device)
     go Held = held v
@@ -85,7 +90,7 @@ counted-laid l = record { fits = l .fits; within = l .within; slots = l .slots }
 
 complete-laid : (o : Option ℕ) (c : Captured) (x : OutputState) → Laid x → Laid (output-of (complete o c x .device))
 complete-laid o c x l =
-    by-word (λ (d : Device). Laid (output-of d)) o c x l (λ v. offer-untouched v x .laid l) (λ v. discard-laid 1 (offer v x .state) (offer-untouched v x .laid l .within))
+    by-word (λ (d : Device). Laid (output-of d)) o c x l (λ e. discard-laid 0 x (l .within)) (λ v. offer-untouched v x .laid l) (λ v. discard-laid 1 (offer v x .state) (offer-untouched v x .laid l .within))
 
 pub step-laid : (d : Device) (buffer : List ℕ) (w : ℕ) → Laid (output-of d) → Laid (output-of (step d buffer w .device))
 unfolding step after-grant counted
@@ -97,7 +102,7 @@ pub complete-landed : (o : Option ℕ) (c : Captured) (x : OutputState)
 unfolding discard holding with-held count-discarded with-counts
 complete-landed o c x =
     let same : (v : ℕ) → offer v x .state .output .counts .landed ≡ x .output .counts .landed = λ v. offer-untouched v x .landed in
-    by-word (λ (d : Device). d .core .output .counts .landed ≡ x .output .counts .landed) o c x refl same same
+    by-word (λ (d : Device). d .core .output .counts .landed ≡ x .output .counts .landed) o c x refl (λ e. refl) same same
 
 -- One sample more is counted.
 complete-samples : (o : Option ℕ) (c : Captured) (x : OutputState)
@@ -105,7 +110,7 @@ complete-samples : (o : Option ℕ) (c : Captured) (x : OutputState)
 unfolding discard holding with-held count-discarded with-counts
 complete-samples o c x =
     let same : (v : ℕ) → offer v x .state .output .counts .samples ≡ x .output .counts .samples = λ v. offer-untouched v x .samples in
-    by-word (λ (d : Device). d .core .output .counts .samples ≡ x .output .counts .samples) o c x refl same same
+    by-word (λ (d : Device). d .core .output .counts .samples ≡ x .output .counts .samples) o c x refl (λ e. refl) same same
 
 pub step-samples : (d : Device) (buffer : List ℕ) (w : ℕ)
     → step d buffer w .device .core .output .counts .samples ≡ d .core .output .counts .samples + 1
@@ -123,7 +128,7 @@ unfolding step after-grant next-capture remember-pins with-pins
 step-half d b w =
     let s = d .core .capture in
     let same = next-half s w in
-    by-word (λ (e : Device). e .core .capture .registers .cr / 2 ≡ s .registers .cr / 2) _ _ _ same (λ v. same) (λ v. lose-frame-half _ ∙ sample-moved s w .half)
+    by-word (λ (e : Device). e .core .capture .registers .cr / 2 ≡ s .registers .cr / 2) _ _ _ same (λ e. same) (λ v. same) (λ v. lose-frame-half _ ∙ sample-left s w .half)
 
 pub step-enable : (d : Device) (b : List ℕ) (w : ℕ) → enable (step d b w .device .core .capture .registers .cr) ≡ enable (d .core .capture .registers .cr)
 step-enable d b w = half-enable _ _ (step-half d b w)

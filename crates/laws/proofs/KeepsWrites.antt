@@ -11,12 +11,12 @@ use borrow.Author.Tests.{eqb-true, not-false}
 use Rattle.bits.specs.Bits.{field}
 use Rattle.registers.specs.Control.{enable}
 use Rattle.registers.specs.Map.{reserved-set, register-at}
-use Rattle.registers.specs.declared.Register.the-variants.{Control, Status, RawStatus, InterruptEnable, MaskedStatus, InterruptClear, WindowStart, WindowSize}
+use Rattle.registers.specs.declared.Register.the-variants.{Control, Status, RawStatus, InterruptEnable, MaskedStatus, InterruptClear, EmbeddedCode, EmbeddedUnmask, WindowStart, WindowSize}
 use Rattle.registers.specs.declared.Found.{Found}
 use Rattle.registers.specs.declared.Found.the-variants.{At, Nothing}
 use Rattle.rules.specs.declared.Capture.{Capture}
 use Rattle.rules.specs.declared.Device.{Device}
-use Rattle.rules.specs.State.{with-cr, with-ris, with-ier, with-cwstrt, with-cwsize, with-registers, device, capture-of, output-of}
+use Rattle.rules.specs.State.{with-cr, with-ris, with-ier, with-cwstrt, with-cwsize, with-escr, with-esur, with-registers, device, capture-of, output-of}
 use Rattle.output.specs.Output.{OutputState, with-held, holding, with-counts, count-discarded, with-place, discard}
 use Rattle.output.proofs.WellFormed.{enabling-ok, discard-ok}
 use Rattle.refusals.specs.Refusals.{_⇒_, first}
@@ -55,6 +55,15 @@ module _ {n : ℕ} (v : ℕ) (s : Capture) (h : CaptureOk n s) where
       let (cr, (ier, (start, (size, rest)))) = allowed (s .registers) (h .allowed) in
       registers-ok (with-cwsize v (s .registers)) refl refl (not-excluded _ (cr, (ier, (start, (reserved, rest))))) (h .ris) (h .ier) h
 
+  -- ESCR and ESUR have no reserved bits (W6).
+  write-code-ok : CaptureOk n (with-registers (with-escr v (s .registers)) s)
+  unfolding with-escr excluded
+  write-code-ok = registers-ok (with-escr v (s .registers)) refl refl (h .allowed) (h .ris) (h .ier) h
+
+  write-unmask-ok : CaptureOk n (with-registers (with-esur v (s .registers)) s)
+  unfolding with-esur excluded
+  write-unmask-ok = registers-ok (with-esur v (s .registers)) refl refl (h .allowed) (h .ris) (h .ier) h
+
 -- A capture state put into the device, with the same ENABLE.
 capture-ok : (s : Capture) (d : Device) → enable (s .registers .cr) ≡ enable (d .core .capture .registers .cr)
     → CaptureOk (d .core .output .counts .samples) s → WellFormed d → WellFormed (device s (output-of d))
@@ -72,7 +81,7 @@ control-ok d v c w =
 
 write-at-ok : (d : Device) (r : Found) (v : ℕ) → v < 2 ^ 32 → reserved-at r v ≡ false → unsupported-at r v ≡ false
     → fixed-at (d .core .capture .registers .cr) r v ≡ false → WellFormed d → WellFormed (write-at d r v)
-unfolding write-at write-register with-ier with-cwstrt with-cwsize clear-flags with-ris with-registers
+unfolding write-at write-register with-ier with-cwstrt with-cwsize with-escr with-esur clear-flags with-ris with-registers
 write-at-ok d Nothing v small a b c w = w
 write-at-ok d (At Control) v small a b c w = control-ok d v (write-control-ok v a b (d .core .capture) (w .capture) c) w
 write-at-ok d (At Status) v small a b c w = w
@@ -80,6 +89,8 @@ write-at-ok d (At RawStatus) v small a b c w = w
 write-at-ok d (At InterruptEnable) v small a b c w = capture-ok _ d refl (write-enable-ok v (d .core .capture) (w .capture) small a) w
 write-at-ok d (At MaskedStatus) v small a b c w = w
 write-at-ok d (At InterruptClear) v small a b c w = capture-ok _ d refl (write-clear-ok v (d .core .capture) (w .capture)) w
+write-at-ok d (At EmbeddedCode) v small a b c w = capture-ok _ d refl (write-code-ok v (d .core .capture) (w .capture)) w
+write-at-ok d (At EmbeddedUnmask) v small a b c w = capture-ok _ d refl (write-unmask-ok v (d .core .capture) (w .capture)) w
 write-at-ok d (At WindowStart) v small a b c w = capture-ok _ d refl (write-start-ok v (d .core .capture) (w .capture) a) w
 write-at-ok d (At WindowSize) v small a b c w = capture-ok _ d refl (write-size-ok v (d .core .capture) (w .capture) a) w
 

@@ -96,7 +96,7 @@ unfolding rate-period
 period-positive cr =
     either (λ p. 0 < p) (eqb (fcrc cr) 0) (omega arith) (either (λ p. 0 < p) (eqb (fcrc cr) 1) (omega arith) (omega arith))
 
-next-rate-fits : (s : Capture) → s .rate < rate-period (s .registers .cr) → next-rate s < rate-period (s .registers .cr)
+pub next-rate-fits : (s : Capture) → s .rate < rate-period (s .registers .cr) → next-rate s < rate-period (s .registers .cr)
 unfolding next-rate
 next-rate-fits s h =
     either (λ x. x < rate-period (s .registers .cr)) (snapshot (s .registers .cr)) h (mod-lt _ (period-positive (s .registers .cr)))

@@ -3,6 +3,9 @@ pub mod RegisterValues
 pub mod CaptureParts
 pub mod Kept
 pub mod Moved
+pub mod Coded
+pub mod Errors
+pub mod Sampled
 pub mod KeepsSample
 pub mod Keeps
 pub mod WriteControl
@@ -12,9 +15,15 @@ pub mod CountsFromHistory
 pub mod Flags
 pub mod WindowLines
 pub mod FrameEdges
+pub mod FrameCodes
 pub mod FrameHistory
 pub mod FrameFlag
 pub mod Unpadded
 pub mod Before
 pub mod Depth
 pub mod Padding
+pub mod Pace
+pub mod DataBytes
+pub mod SyncPins
+pub mod Seeking
+pub mod OpenFrames

@@ -1,4 +1,4 @@
--- What a sample makes of the capture state (`Moved`): a well-formed one stays so, with one more allowed in the bound on lines and pixels; CR stays but for
+-- What rules 3 to 8 make of the capture state by the sync pins (`Moved`): a well-formed one stays so, with one more allowed in the bound on lines and pixels; CR stays but for
 -- CAPTURE, OVR, ERR and the pins stay, and at most one datum is packed. The idea: rules 3 to 5 pack none (`Kept`), and rules 6 to 8 leave the registers. FRAME, where it is due after the
 -- sample, changes none of this. Assumes nothing.
 use mathlib.Core.Bool.{Bool, true, false, cond, _&&_}
@@ -10,8 +10,7 @@ use lib.Dec.{eqb, ltb}
 use lib.Pow.{pow-pos}
 use borrow.Author.Tests.{ltb-true, ltb-false}
 use Rattle.bits.specs.Bits.{bit}
-use Rattle.registers.specs.Control.{jpeg, edm, enable}
-use Rattle.samples.specs.Samples.{pixel-data}
+use Rattle.registers.specs.Control.{jpeg, edm}
 use Rattle.packing.specs.Packing.{per-word}
 use Rattle.packing.proofs.Lanes.{per-word-positive}
 use Rattle.rules.specs.declared.Syncs.{Syncs}
@@ -20,13 +19,13 @@ use Rattle.rules.specs.declared.Frame.{Frame}
 use Rattle.rules.specs.declared.Frame.the-variants.{Closed, Open}
 use Rattle.rules.specs.declared.Capture.{Capture}
 use Rattle.rules.specs.State.{no-partial, is-taken, with-pins, with-syncs, with-frame, with-partial, close-frame}
-use Rattle.rules.specs.Capture.{Captured, no-word, working-edge, enabled, remember-pins, blanking, any-blanks, sync-flags, padded, end-of, frame-closes, frame-pads, frame-end, frame-start, line-begins, next-pixel, captured, pack, pixel, pixel-in, pixel-edge, either-word, at-edge, capture-sample, next-capture}
+use Rattle.rules.specs.Capture.{Captured, no-word, any-blanks, sync-flags, padded, end-of, frame-closes, frame-pads, frame-end, frame-start, line-begins, next-pixel, captured, pack, pixel, pixel-in, pixel-edge, either-word, at-edge}
 use Rattle.bits.proofs.Booleans.{and-true, or-true, by-cond, either}
 use Rattle.rules.proofs.WellFormed.{CaptureOk}
-use Rattle.laws.proofs.RegisterValues.{same-edm, same-jpeg, half-setup, half-enable}
+use Rattle.laws.proofs.RegisterValues.{same-edm, same-jpeg, half-setup}
 use Rattle.laws.proofs.Packing.{packed-partial}
 use Rattle.laws.proofs.CaptureParts.{pins-syncs-ok, partial-ok, scan-ok}
-use Rattle.laws.proofs.Kept.{Kept, kept, sync-flags-kept, flagged-kept, frame-start-kept, early-kept}
+use Rattle.laws.proofs.Kept.{Kept, kept, sync-flags-kept, frame-start-kept, early-kept}
 
 -- Without a word something counted grows by at most 1; a word comes when it would reach q, and leaves it at 0.
 abbrev pub Paced : ℕ → ℕ → ℕ → Option ℕ → Type 0
@@ -69,7 +68,7 @@ after {s} {t} {c} k m =
       paced = same-pace _ _ _ _ (c .word) (k .fewer) (rw (same-edges _ _ (k .half)) at (m .paced));
     }
 
-grow : {n : ℕ} {s : Capture} → CaptureOk n s → CaptureOk (n + 1) s
+pub grow : {n : ℕ} {s : Capture} → CaptureOk n s → CaptureOk (n + 1) s
 unfolding with-pins with-syncs
 grow {s = s} h = pins-syncs-ok (s .pins) (s .syncs) (omega arith) h
 
@@ -89,7 +88,7 @@ next-pixel-ok {n} {s} taken f in-f h =
     (scan-ok taken f _ in-f (omega arith) (omega arith) h)
 
 -- Rule 8: the well-formed state, and the pace.
-pack-ok : {n : ℕ} {s : Capture} (x : ℕ) → is-taken (s .frame) ≡ true → CaptureOk n s → CaptureOk n (pack s x .state)
+pub pack-ok : {n : ℕ} {s : Capture} (x : ℕ) → is-taken (s .frame) ≡ true → CaptureOk n s → CaptureOk n (pack s x .state)
 unfolding pack no-word
 pack-ok {n} {s} x taken h =
     let c = s .partial .count in
@@ -196,43 +195,3 @@ at-edge-moved s now x =
       pins = m .pins;
       paced = edge-paced s now x (frame-pads t now) (frame-pads-padding t now) m;
     }
-
--- Rules 2 to 8, once the pins are remembered.
-pub sample-moved : (s : Capture) (w : ℕ) → Moved (remember-pins w s) (capture-sample s w)
-unfolding capture-sample
-sample-moved s w =
-    either (Moved (remember-pins w s)) (working-edge s w && enabled s)
-    (at-edge-moved _ (blanking s w) (pixel-data w))
-    (no-word-moved (kept _))
-
-pub sample-ok : {n : ℕ} {s : Capture} (w : ℕ) → CaptureOk n s → CaptureOk (n + 1) (capture-sample s w .state)
-unfolding remember-pins with-pins with-syncs
-sample-ok {n} {s} w h = sample-moved s w .ok n (pins-syncs-ok _ (s .syncs) (omega arith) h)
-
--- ENABLE stays, and a word is completed with ENABLE 1 only.
-pub sample-enable : (s : Capture) (w : ℕ) → enable (capture-sample s w .state .registers .cr) ≡ enable (s .registers .cr)
-unfolding remember-pins with-pins
-sample-enable s w = half-enable _ _ (sample-moved s w .half)
-
--- After a sample that loses no word, FRAME raised where it is due.
-pub next-ok : {n : ℕ} {s : Capture} (w : ℕ) → CaptureOk n s → CaptureOk (n + 1) (next-capture s w)
-unfolding next-capture
-next-ok {n} {s} w h = flagged-kept (capture-sample s w) .ok (n + 1) (sample-ok w h)
-
-pub next-half : (s : Capture) (w : ℕ) → next-capture s w .registers .cr / 2 ≡ s .registers .cr / 2
-unfolding next-capture remember-pins with-pins
-next-half s w = flagged-kept (capture-sample s w) .half ∙ sample-moved s w .half
-
-pub next-overrun : (s : Capture) (w : ℕ) → bit 1 (next-capture s w .registers .ris) ≡ bit 1 (s .registers .ris)
-unfolding next-capture remember-pins with-pins
-next-overrun s w = flagged-kept (capture-sample s w) .overrun ∙ sample-moved s w .overrun
-
-pub next-enable : (s : Capture) (w : ℕ) → enable (next-capture s w .registers .cr) ≡ enable (s .registers .cr)
-next-enable s w = half-enable _ _ (next-half s w)
-
-pub word-enabled : (s : Capture) (w v : ℕ) → capture-sample s w .word ≡ some v → enable (s .registers .cr) ≡ true
-unfolding capture-sample no-word
-word-enabled s w v =
-    by-cond (λ (c : Captured). c .word ≡ some v → enable (s .registers .cr) ≡ true) (working-edge s w && enabled s) _ _
-    (λ t is. and-true (working-edge s w) (enabled s) t .1)
-    (λ t is. let z : _≡_ {A = ℕ} 0 1 = cc in absurd (omega arith))

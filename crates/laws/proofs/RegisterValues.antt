@@ -7,9 +7,9 @@ use Prim.Native.Nat.{ℕ, zero, suc, _+_, _-_, _/_, _%_, _^_, _≤_}
 use native.Mathlib.Nat.{div-div-eq-div-mul, pow-succ'}
 use native.Mathlib.Omega.{arith}
 use lib.Dec.{eqb}
-use borrow.Author.Tests.{eqb-true, eqb-false, ne-eqb, not-false}
+use borrow.Author.Tests.{eqb-true, eqb-false, eq-eqb, ne-eqb, not-false}
 use Rattle.bits.specs.Bits.{bit, field}
-use Rattle.registers.specs.Control.{capture, crop, jpeg, embedded, fcrc, edm, enable, unsupported-jpeg, unsupported, vspol}
+use Rattle.registers.specs.Control.{capture, crop, jpeg, embedded, fcrc, edm, enable, unsupported-jpeg, unsupported-codes, unsupported, vspol}
 use Rattle.registers.specs.Map.{reserved-set}
 use Rattle.registers.specs.declared.Register.the-variants.{Control, InterruptEnable, WindowStart, WindowSize}
 use Rattle.rules.specs.declared.Registers.{Registers}
@@ -58,6 +58,17 @@ pub raised-other : (j k x : ℕ) → ¬ (j ≡ k) → bit j (raised k x) ≡ bit
 unfolding raised
 raised-other j k x other = by-cond (λ y. bit j y ≡ bit j x) (bit k x) _ _ (λ e. refl) (λ e. rw (carry j k x other (eqb-false _ 1 e)))
 
+-- And it raises that flag.
+carried : (k x : ℕ) → ¬ (x / 2 ^ k % 2 ≡ 1) → (x + 2 ^ k) / 2 ^ k % 2 ≡ 1
+carried zero x off = omega arith
+carried (suc k) x off =
+    let half : (x + 2 ^ suc k) / 2 ≡ x / 2 + 2 ^ k = rw (pow-succ' 2 k) (omega arith) in
+    rw (above k (x + 2 ^ suc k), half) (carried k (x / 2) (rw (above k x) at off))
+
+pub raised-up : (k x : ℕ) → bit k (raised k x) ≡ true
+unfolding raised
+raised-up k x = by-cond (λ y. bit k y ≡ true) (bit k x) _ _ (λ on. on) (λ off. eq-eqb _ 1 (carried k x (eqb-false _ 1 off)))
+
 pub lowered-half : (x : ℕ) → lowered 0 x / 2 ≡ x / 2
 unfolding lowered
 lowered-half x = by-cond (λ y. y / 2 ≡ x / 2) (bit 0 x) _ _ (λ e. omega (arith, bit-true 0 x e)) (λ e. refl)
@@ -87,19 +98,23 @@ lowered-reserved : (x : ℕ) → reserved-set Control (lowered 0 x) ≡ reserved
 lowered-reserved x = rw (same-above 11 _ _ (lowered-half x), same-above 14 _ _ (lowered-half x))
 
 supported : (x : ℕ) → unsupported x ≡ false
-    → (unsupported-jpeg x || embedded x || eqb (fcrc x) 3 ≡ false) × (capture x && not (enable x) ≡ false)
+    → (unsupported-jpeg x || unsupported-codes x || eqb (fcrc x) 3 ≡ false) × (capture x && not (enable x) ≡ false)
 unfolding unsupported
-supported x e = or-false (unsupported-jpeg x || embedded x || eqb (fcrc x) 3) (capture x && not (enable x)) e
+supported x e = or-false (unsupported-jpeg x || unsupported-codes x || eqb (fcrc x) 3) (capture x && not (enable x)) e
 
 lowered-jpeg : (x : ℕ) → unsupported-jpeg (lowered 0 x) ≡ unsupported-jpeg x
 unfolding unsupported-jpeg
 lowered-jpeg x = rw (same-above 2 _ _ (lowered-half x), same-above 9 _ _ (lowered-half x), same-above 1 _ _ (lowered-half x))
 
+lowered-codes : (x : ℕ) → unsupported-codes (lowered 0 x) ≡ unsupported-codes x
+unfolding unsupported-codes
+lowered-codes x = rw (same-above 2 _ _ (lowered-half x), same-above 9 _ _ (lowered-half x), same-above 3 _ _ (lowered-half x))
+
 lowered-supported : (x : ℕ) → unsupported x ≡ false → unsupported (lowered 0 x) ≡ false
 unfolding unsupported
 lowered-supported x e =
-    both-false (unsupported-jpeg (lowered 0 x) || embedded (lowered 0 x) || eqb (fcrc (lowered 0 x)) 3) _
-    (rw (lowered-jpeg, same-above 3 _ _ (lowered-half x), same-above 7 _ _ (lowered-half x)) (supported x e .0))
+    both-false (unsupported-jpeg (lowered 0 x) || unsupported-codes (lowered 0 x) || eqb (fcrc (lowered 0 x)) 3) _
+    (rw (lowered-jpeg, lowered-codes, same-above 7 _ _ (lowered-half x)) (supported x e .0))
     (rw (lowered-capture x))
 
 pub capture-enable : (x : ℕ) → unsupported x ≡ false → capture x ≡ true → enable x ≡ true
@@ -116,6 +131,9 @@ same-crop x y h = let same : x / 2 ^ 2 % 2 ≡ y / 2 ^ 2 % 2 = omega arith in rw
 
 pub same-jpeg : (x y : ℕ) → field 13 1 x ≡ field 13 1 y → jpeg x ≡ jpeg y
 same-jpeg x y h = let same : x / 2 ^ 3 % 2 ≡ y / 2 ^ 3 % 2 = omega arith in rw same
+
+pub same-embedded : (x y : ℕ) → field 13 1 x ≡ field 13 1 y → embedded x ≡ embedded y
+same-embedded x y h = let same : x / 2 ^ 4 % 2 ≡ y / 2 ^ 4 % 2 = omega arith in rw same
 
 pub same-vspol : (x y : ℕ) → field 13 1 x ≡ field 13 1 y → vspol x ≡ vspol y
 same-vspol x y h = let same : x / 2 ^ 7 % 2 ≡ y / 2 ^ 7 % 2 = omega arith in rw same
@@ -156,11 +174,22 @@ of-either : (a b c : Bool) → a && (b || c) ≡ false → a && c ≡ false
 of-either false b c e = refl
 of-either true b c e = or-false b c e .1
 
-pub uncropped : (r : Registers) → excluded r ≡ false → jpeg (r .cr) && crop (r .cr) ≡ false
-unfolding unsupported unsupported-jpeg
-uncropped r e =
+first-two : (r : Registers) → excluded r ≡ false → (unsupported-jpeg (r .cr) ≡ false) × (unsupported-codes (r .cr) ≡ false)
+unfolding unsupported
+first-two r e =
     let (_, (_, (_, (_, (supported, _))))) = allowed r e in
-    let three = unsupported-jpeg (r .cr) || embedded (r .cr) || eqb (fcrc (r .cr)) 3 in
+    let three = unsupported-jpeg (r .cr) || unsupported-codes (r .cr) || eqb (fcrc (r .cr)) 3 in
     let first-three = or-false three (capture (r .cr) && not (enable (r .cr))) supported .0 in
-    let first-two = or-false (unsupported-jpeg (r .cr) || embedded (r .cr)) (eqb (fcrc (r .cr)) 3) first-three .0 in
-    of-either (jpeg (r .cr)) (not (eqb (edm (r .cr)) 0)) (crop (r .cr)) (or-false (unsupported-jpeg (r .cr)) (embedded (r .cr)) first-two .0)
+    let two = or-false (unsupported-jpeg (r .cr) || unsupported-codes (r .cr)) (eqb (fcrc (r .cr)) 3) first-three .0 in
+    or-false (unsupported-jpeg (r .cr)) (unsupported-codes (r .cr)) two
+
+pub uncropped : (r : Registers) → excluded r ≡ false → jpeg (r .cr) && crop (r .cr) ≡ false
+unfolding unsupported-jpeg
+uncropped r e = of-either (jpeg (r .cr)) (not (eqb (edm (r .cr)) 0)) (crop (r .cr)) (first-two r e .0)
+
+-- ESS goes with EDM 0 and without JPEG (W6).
+pub eight-bits : (r : Registers) → excluded r ≡ false → embedded (r .cr) ≡ true → (eqb (edm (r .cr)) 0 ≡ true) × (jpeg (r .cr) ≡ false)
+unfolding unsupported-codes
+eight-bits r e coded =
+    let (bits, plain) = or-false (not (eqb (edm (r .cr)) 0)) (jpeg (r .cr)) (and-false (embedded (r .cr)) _ (first-two r e .1) coded) in
+    (not-false _ bits, plain)

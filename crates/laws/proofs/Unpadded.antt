@@ -1,15 +1,14 @@
 -- Samples that pad no word (W4): those without JPEG, those at which VSYNC does not blank, and those without a datum waiting. Of a sample that pads one, the word, that FRAME is due
 -- (`sample-padded`), and that none waits after it. Assumes nothing.
-use mathlib.Core.Bool.{Bool, true, false, cond, not, _&&_, _||_, Bool·beq, false≢true}
-use mathlib.Core.List.{List, [], _∷_}
+use mathlib.Core.Bool.{Bool, true, false, cond, not, _&&_, Bool·beq, false≢true}
+use mathlib.Core.List.{List}
 use mathlib.Core.Option.{Option, none, some}
-use mathlib.Core.Path.{_≡_, refl, sym, ap, _∙_}
-use Prim.Native.Nat.{ℕ, _/_, _≤_}
+use mathlib.Core.Path.{_≡_, refl, ap, _∙_}
+use Prim.Native.Nat.{ℕ}
 use native.Mathlib.Omega.{arith}
 use lib.Dec.{ltb}
-use borrow.Author.Tests.{le-ltb}
-use Rattle.bits.proofs.Booleans.{and-true, and-zero, or-true, either, by-cond}
-use Rattle.registers.specs.Control.{crop, jpeg, vspol}
+use Rattle.bits.proofs.Booleans.{and-zero, or-true, either}
+use Rattle.registers.specs.Control.{crop, jpeg, embedded, vspol}
 use Rattle.samples.specs.Samples.{pixel-data, vsync-pin, bus-grant}
 use Rattle.output.specs.Output.{grant}
 use Rattle.rules.specs.declared.Syncs.{Syncs}
@@ -18,7 +17,8 @@ use Rattle.rules.specs.declared.Frame.the-variants.{Closed, Open}
 use Rattle.rules.specs.declared.Capture.{Capture}
 use Rattle.rules.specs.declared.Device.{Device}
 use Rattle.rules.specs.State.{capture-of, output-of, close-frame, with-frame, with-partial, raise, with-ris, with-registers, with-pins, with-syncs}
-use Rattle.rules.specs.Capture.{Captured, no-word, flagged, working-edge, enabled, remember-pins, blanking, any-blanks, vsync-flag, line-flag, sync-flags, frame-rises, frame-due, padded, frame-closes, frame-pads, frame-end, frame-start, pixel-edge, either-word, at-edge, capture-sample}
+use Rattle.rules.specs.Capture.{no-word, flagged, working-edge, enabled, remember-pins, blanking, any-blanks, vsync-flag, line-flag, sync-flags, frame-rises, frame-due, padded, frame-closes, frame-pads, frame-end, frame-start, pixel-edge, either-word, at-edge}
+use Rattle.rules.specs.Sample.{edge, capture-sample}
 use Rattle.rules.specs.Run.{counted, lose-frame, after-grant, step}
 use Rattle.laws.specs.Padding.{padded-at}
 use Rattle.laws.proofs.Kept.{flagged-kept, early-kept}
@@ -90,24 +90,24 @@ edge-without-data s now x blanks none-waits =
     let some-blanks : any-blanks now ≡ true = rw blanks (or-true (now .hsync)) in
     rw (no-pixel (u .frame) u now x some-blanks) (omega (arith, early-kept s now .fewer, none-waits))
 
-sample-without-data : (s : Capture) (w : ℕ) → Bool·beq (vsync-pin w) (vspol (s .registers .cr)) ≡ true → s .partial .count ≡ 0
+sample-without-data : (s : Capture) (w : ℕ) → embedded (s .registers .cr) ≡ false → Bool·beq (vsync-pin w) (vspol (s .registers .cr)) ≡ true → s .partial .count ≡ 0
     → capture-sample s w .state .partial .count ≡ 0
-unfolding capture-sample remember-pins with-pins no-word blanking
-sample-without-data s w blanks none-waits = go (working-edge s w && enabled s)
+unfolding capture-sample edge remember-pins with-pins no-word blanking
+sample-without-data s w plain blanks none-waits = rw plain (go (working-edge s w && enabled s))
   where
     go : (goes-on : Bool) → cond goes-on (at-edge (remember-pins w s) (blanking s w) (pixel-data w)) (no-word (remember-pins w s)) .state .partial .count ≡ 0
     go true = edge-without-data (remember-pins w s) (blanking s w) (pixel-data w) blanks none-waits
     go false = none-waits
 
-pub step-without-data : (d : Device) (b : List ℕ) (w : ℕ) → Bool·beq (vsync-pin w) (vspol (d .core .capture .registers .cr)) ≡ true
+pub step-without-data : (d : Device) (b : List ℕ) (w : ℕ) → embedded (d .core .capture .registers .cr) ≡ false → Bool·beq (vsync-pin w) (vspol (d .core .capture .registers .cr)) ≡ true
     → d .core .capture .partial .count ≡ 0 → step d b w .device .core .capture .partial .count ≡ 0
 unfolding step after-grant lose-frame close-frame with-partial with-frame
-step-without-data d b w blanks none-waits =
+step-without-data d b w plain blanks none-waits =
     let s = capture-of d in
     let c = capture-sample s w in
-    let none-left = sample-without-data s w blanks none-waits in
+    let none-left = sample-without-data s w plain blanks none-waits in
     let same : flagged c .partial .count ≡ 0 = omega (arith, flagged-kept c .fewer, none-left) in
-    by-word (λ (e : Device). e .core .capture .partial .count ≡ 0) (c .word) c (grant (bus-grant w) (enabled s) (counted (output-of d)) b .state) same (λ v. same) (λ v. refl)
+    by-word (λ (e : Device). e .core .capture .partial .count ≡ 0) (c .word) c (grant (bus-grant w) (enabled s) (counted (output-of d)) b .state) same (λ e. same) (λ v. same) (λ v. refl)
 
 -- Of a sample that pads a word.
 flags-cr : (s : Capture) (now : Syncs) → sync-flags s now .registers .cr ≡ s .registers .cr
@@ -149,7 +149,7 @@ frame-pads-by t now v e = e
 
 edge-padded : (s : Capture) (now : Syncs) (x v : ℕ) → jpeg (s .registers .cr) && crop (s .registers .cr) ≡ false
     → frame-pads (sync-flags s now) now ≡ some v
-    → at-edge s now x ≡ record { state = with-syncs now (frame-start (frame-closes (sync-flags s now) now) now); word = some v; due = true }
+    → at-edge s now x ≡ record { state = with-syncs now (frame-start (frame-closes (sync-flags s now) now) now); word = some v; due = true; error = false }
 unfolding at-edge frame-end pixel-edge no-word either-word
 edge-padded s now x v alone pads =
     let t = sync-flags s now in
@@ -158,9 +158,9 @@ edge-padded s now x v alone pads =
     let some-blanks : any-blanks now ≡ true = rw blanks (or-true (now .hsync)) in
     rw (pads, no-pixel (u .frame) u now x some-blanks, due-padded (t .frame) t now v (rw (flags-cr s now) alone) blanks word)
 
-pub sample-padded : (s : Capture) (w v : ℕ) → jpeg (s .registers .cr) && crop (s .registers .cr) ≡ false → padded-at s w ≡ some v
-    → capture-sample s w ≡ (let now = blanking s w in record { state = with-syncs now (frame-start (frame-closes (sync-flags (remember-pins w s) now) now) now); word = some v; due = true })
-unfolding padded-at capture-sample
-sample-padded s w v alone e =
+pub sample-padded : (s : Capture) (w v : ℕ) → embedded (s .registers .cr) ≡ false → jpeg (s .registers .cr) && crop (s .registers .cr) ≡ false → padded-at s w ≡ some v
+    → capture-sample s w ≡ (let now = blanking s w in record { state = with-syncs now (frame-start (frame-closes (sync-flags (remember-pins w s) now) now) now); word = some v; due = true; error = false })
+unfolding padded-at capture-sample edge
+sample-padded s w v plain alone e =
     let (goes-on, pads) = pads-at-vsync (working-edge s w && enabled s) (frame-pads s (blanking s w)) v e in
-    rw goes-on (edge-padded (remember-pins w s) (blanking s w) (pixel-data w) v (seen-alone s w alone) (pads-seen s w (blanking s w) ∙ pads))
+    rw (goes-on, plain) (edge-padded (remember-pins w s) (blanking s w) (pixel-data w) v (seen-alone s w alone) (pads-seen s w (blanking s w) ∙ pads))

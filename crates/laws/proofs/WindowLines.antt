@@ -34,7 +34,7 @@ over-blanks n lines blanked = rw (same-lines n lines) (go (ltb n lines) (leb n l
     go false false blanked = refl
 
 -- A pixel begins the next line if HSYNC blanked last, or the first; a line that has ended never runs on.
-over-begins : (n lines : ℕ) → over n (lines + 1) false ≡ over n lines true || (leb n lines && false)
+pub over-begins : (n lines : ℕ) → over n (lines + 1) false ≡ over n lines true || (leb n lines && false)
 over-begins n lines = go (decLt lines n)
   where
     has-ended : (b : Bool) → b || (not b && true) || false ≡ true
@@ -93,3 +93,7 @@ last-begun first more lines = go (decLt (first + more) lines)
 -- Before any line, and HSYNC blanking or not, it has not ended.
 pub over-none : (n : ℕ) (blanked : Bool) → 0 < n → over n 0 blanked ≡ false
 over-none n blanked pos = rw (le-ltb n 0 (omega arith), ne-eqb 0 n (omega arith))
+
+-- Nor in the first line.
+pub over-first-line : (n : ℕ) → 0 < n → over n 1 false ≡ false
+over-first-line n pos = rw (le-ltb n 1 (omega arith), and-zero (eqb 1 n))

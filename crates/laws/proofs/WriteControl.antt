@@ -14,7 +14,7 @@ use Rattle.registers.specs.declared.Register.the-variants.{Control}
 use Rattle.rules.specs.declared.Frame.{Frame}
 use Rattle.rules.specs.declared.Frame.the-variants.{Closed, Open}
 use Rattle.rules.specs.declared.Capture.{Capture}
-use Rattle.rules.specs.State.{is-open, close-frame, with-cr, with-registers, with-syncs, with-frame, with-rate, with-partial}
+use Rattle.rules.specs.State.{is-open, close-frame, with-cr, with-registers, with-syncs, with-frame, with-rate, with-partial, with-waiting}
 use Rattle.rules.specs.WellFormed.{excluded, unused-bits, lines, pixels}
 use Rattle.rules.specs.RegisterCalls.{changes-setup, enabling, disabling, switch-enable, capture-rises, switch-capture, write-control}
 use Rattle.bits.proofs.Booleans.{or-false}
@@ -118,7 +118,7 @@ module _ {n : ℕ} (v : ℕ) (reserved : reserved-set Control v ≡ false) (supp
 
   was-on : (rises : Bool) → enable (s .registers .cr) ≡ true → field 13 1 v ≡ field 13 1 (s .registers .cr)
       → Written n v rises (cond (enable v) s (disabling s))
-  unfolding disabling close-frame with-rate with-frame with-partial
+  unfolding disabling close-frame with-rate with-frame with-partial with-waiting
   was-on rises on setup =
       by-cond (Written n v rises) (enable v) _ _
       (λ stays. steady-written rises (stays ∙ sym on) setup)
@@ -126,7 +126,7 @@ module _ {n : ℕ} (v : ℕ) (reserved : reserved-set Control v ≡ false) (supp
 
   -- ENABLE was 0: it rises, or it stays 0.
   was-off : (rises : Bool) → Rest s → Written n v rises (cond (enable v) (enabling s) s)
-  unfolding enabling with-rate with-frame with-syncs
+  unfolding enabling with-rate with-frame with-syncs with-waiting
   was-off rises r =
       either (Written n v rises) (enable v)
       (rest-written rises (enabling s) refl (record { closed = refl; count = r .count; bits = r .bits; rate = refl }))

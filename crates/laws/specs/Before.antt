@@ -11,7 +11,7 @@ use Rattle.rules.specs.declared.Frame.the-variants.{Closed, Open}
 use Rattle.rules.specs.declared.Capture.{Capture}
 use Rattle.rules.specs.declared.Device.{Device}
 use Rattle.rules.specs.State.{capture-of, output-of, with-syncs, raise, clear-capture, close-frame}
-use Rattle.rules.specs.Capture.{Captured, no-word, working-edge, enabled, remember-pins, blanking, sync-flags, frame-due, frame-closes, frame-start, pixel-edge}
+use Rattle.rules.specs.Capture.{Captured, no-word, working-edge, enabled, remember-pins, blanking, sync-flags, frame-due, frame-closes, frame-start, pixel-edge, at-edge}
 use Rattle.rules.specs.Run.{complete, Stepped, counted}
 
 -- Before W1, rule 4 in document 01's words: an open frame closes when VSYNC blanks. A partial word is dropped. If the frame was one of those taken, FRAME rises and, with CM 1,
@@ -32,7 +32,7 @@ frame-end-before-W4 s now = frame-closes (cond (frame-due (s .frame) s now) (rai
 unfoldable pub at-edge-by : (Capture → Syncs → Capture) → Capture → Syncs → ℕ → Captured
 at-edge-by frame-end s now x =
     let p = pixel-edge (frame-start (frame-end (sync-flags s now) now) now) now x in
-    record { state = with-syncs now (p .state); word = p .word; due = false }
+    record { state = with-syncs now (p .state); word = p .word; due = false; error = false }
 
 unfoldable pub capture-sample-by : (Capture → Syncs → Capture) → Capture → ℕ → Captured
 capture-sample-by frame-end s w =
@@ -46,6 +46,20 @@ step-by frame-end d buffer w =
     let s = capture-of d in
     let g = grant (bus-grant w) (enabled s) (counted (output-of d)) buffer in
     let c = complete (capture-sample-by frame-end s w .word) (capture-sample-by frame-end s w) (g .state) in
+    record { device = c .device; buffer = g .buffer; landing = g .landing; packed = c .packed }
+
+-- Before W6: the rules 2 to 8 by the sync pins alone, whatever ESS is; and the nine rules with them.
+unfoldable pub capture-sample-before-W6 : Capture → ℕ → Captured
+capture-sample-before-W6 s w =
+    cond (working-edge s w && enabled s)
+    (at-edge (remember-pins w s) (blanking s w) (pixel-data w))
+    (no-word (remember-pins w s))
+
+unfoldable pub step-before-W6 : Device → List ℕ → ℕ → Stepped
+step-before-W6 d buffer w =
+    let s = capture-of d in
+    let g = grant (bus-grant w) (enabled s) (counted (output-of d)) buffer in
+    let c = complete (capture-sample-before-W6 s w .word) (capture-sample-before-W6 s w) (g .state) in
     record { device = c .device; buffer = g .buffer; landing = g .landing; packed = c .packed }
 
 abbrev pub step-before-W1 : Device → List ℕ → ℕ → Stepped

@@ -1,16 +1,17 @@
 -- Every list of calls on a device made with a depth (W9), in any order: register writes, re-arming, runs and single samples, each with whatever memory and
 -- start byte it is lent. A refused call changes nothing, so the list stands for its accepted calls. And the events of such a list, in order.
-use mathlib.Core.Bool.{cond, not, _&&_}
+use mathlib.Core.Bool.{Bool, true, cond, not, _&&_}
 use mathlib.Core.List.{List, [], _∷_, _++_}
 use mathlib.Core.Option.{Option}
 use Prim.Native.Nat.{ℕ, _<_, _^_}
 use lib.Dec.{eqb}
 use lib.ListN.{drop}
-use Rattle.registers.specs.Control.{enable}
+use Rattle.registers.specs.Control.{embedded, enable}
 use Rattle.rules.specs.declared.Capture.{Capture}
 use Rattle.rules.specs.declared.Device.{Device}
 use Rattle.rules.specs.State.{fresh-of}
 use Rattle.rules.specs.RegisterCalls.{write, rearm}
+use Rattle.rules.specs.Sample.{capture-sample}
 use Rattle.rules.specs.Run.{Packed, step, run-refusal, run, sample}
 
 -- A call. The value of a write is a 32-bit number.
@@ -70,3 +71,14 @@ events-of-all d (c ∷ cs) = events d c ++ events-of-all (after d c) cs
 
 abbrev pub history : ℕ → List Call → List Event
 history depth cs = events-of-all (fresh-of depth) cs
+
+-- ERR rises at no sample of the history, as the capture rules say (W6); and no sample found ESS 1.
+unfoldable pub no-errors : List Event → Bool
+no-errors [] = true
+no-errors (sampled found w landing packed ∷ es) = not (capture-sample found w .error) && no-errors es
+no-errors (disabled ∷ es) = no-errors es
+
+unfoldable pub without-codes : List Event → Bool
+without-codes [] = true
+without-codes (sampled found w landing packed ∷ es) = not (embedded (found .registers .cr)) && without-codes es
+without-codes (disabled ∷ es) = without-codes es

@@ -1,8 +1,10 @@
 -- The counts, from the history (document 01, "Memory and counts"): a ledger that is kept by the events of a list of calls alone.
+use mathlib.Core.Bool.{Bool, cond}
 use mathlib.Core.List.{List, [], _∷_}
 use mathlib.Core.Option.{Option, none, some}
 use Prim.Native.Nat.{ℕ, _+_, _-_}
 use Rattle.output.specs.declared.Output.{Output}
+use Rattle.rules.specs.Sample.{capture-sample}
 use Rattle.rules.specs.Run.{Packed, nothing, completed, lost}
 use Rattle.laws.specs.Histories.{Event, sampled, disabled}
 
@@ -40,9 +42,13 @@ unfoldable pub disabling-entry : Ledger → Ledger
 disabling-entry l =
     record { samples = l .samples; completed = l .completed; landed = l .landed; discarded = l .discarded + l .held; held = 0 }
 
+-- And so does a sample at which ERR rises, after rule 1 (W6). It does not reach rule 9.
+unfoldable pub error-entry : Bool → Ledger → Ledger
+error-entry rises l = cond rises (disabling-entry l) l
+
 -- What an event enters, rule 1 before rule 9; and all events, in order.
 unfoldable pub enter : Ledger → Event → Ledger
-enter l (sampled found w landing packed) = word-entry packed (landing-entry landing (sample-entry l))
+enter l (sampled found w landing packed) = error-entry (capture-sample found w .error) (word-entry packed (landing-entry landing (sample-entry l)))
 enter l disabled = disabling-entry l
 
 unfoldable pub enter-all : Ledger → List Event → Ledger

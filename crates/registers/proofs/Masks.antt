@@ -12,7 +12,7 @@ use lib.Pow.{pow-pos}
 use borrow.Author.Tests.{eq-eqb, ne-eqb}
 use Rattle.registers.specs.Map.{Range, reserved, any-set, mask}
 use Rattle.registers.specs.declared.Register.{Register}
-use Rattle.registers.specs.declared.Register.the-variants.{Control, Status, RawStatus, InterruptEnable, MaskedStatus, InterruptClear, WindowStart, WindowSize}
+use Rattle.registers.specs.declared.Register.the-variants.{Control, Status, RawStatus, InterruptEnable, MaskedStatus, InterruptClear, EmbeddedCode, EmbeddedUnmask, WindowStart, WindowSize}
 
 -- A mask of two blocks, from bit k up and below it.
 blocks : (k a b x : ℕ) → b < 2 ^ k → bitAnd x (a * 2 ^ k + b) ≡ bitAnd (x / 2 ^ k) a * 2 ^ k + bitAnd (x % 2 ^ k) b
@@ -48,6 +48,8 @@ falling RawStatus = (omega arith, tt)
 falling InterruptEnable = (omega arith, tt)
 falling MaskedStatus = (omega arith, tt)
 falling InterruptClear = (omega arith, tt)
+falling EmbeddedCode = tt
+falling EmbeddedUnmask = tt
 falling WindowStart = (omega arith, (omega arith, tt))
 falling WindowSize = (omega arith, (omega arith, tt))
 

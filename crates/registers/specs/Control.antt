@@ -43,6 +43,10 @@ enable cr = bit 14 cr
 unfoldable pub unsupported-jpeg : ℕ → Bool
 unsupported-jpeg cr = jpeg cr && (not (eqb (edm cr) 0) || crop cr)
 
--- A CR value with JPEG 1 otherwise than with EDM 0 and CROP 0 (W4), ESS 1, FCRC 3, or CAPTURE 1 and ENABLE 0: refusal 5.
+-- W6 (004, 32.3.6): ESS 1 with an EDM other than 0, or with JPEG 1.
+unfoldable pub unsupported-codes : ℕ → Bool
+unsupported-codes cr = embedded cr && (not (eqb (edm cr) 0) || jpeg cr)
+
+-- A CR value with JPEG 1 otherwise than with EDM 0 and CROP 0 (W4), ESS 1 otherwise than with EDM 0 and JPEG 0 (W6), FCRC 3, or CAPTURE 1 and ENABLE 0: refusal 5.
 unfoldable pub unsupported : ℕ → Bool
-unsupported cr = unsupported-jpeg cr || embedded cr || eqb (fcrc cr) 3 || (capture cr && not (enable cr))
+unsupported cr = unsupported-jpeg cr || unsupported-codes cr || eqb (fcrc cr) 3 || (capture cr && not (enable cr))

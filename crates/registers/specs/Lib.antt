@@ -1,3 +1,4 @@
 pub mod Map
 pub mod Control
 pub mod Window
+pub mod Codes

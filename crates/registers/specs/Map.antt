@@ -6,13 +6,13 @@ use Prim.Native.Nat.{ℕ, _+_, _*_, _-_, _^_}
 use lib.Dec.{eqb}
 use Rattle.bits.specs.Bits.{field}
 use Rattle.registers.specs.declared.Register.{Register}
-use Rattle.registers.specs.declared.Register.the-variants.{Control, Status, RawStatus, InterruptEnable, MaskedStatus, InterruptClear, WindowStart, WindowSize}
+use Rattle.registers.specs.declared.Register.the-variants.{Control, Status, RawStatus, InterruptEnable, MaskedStatus, InterruptClear, EmbeddedCode, EmbeddedUnmask, WindowStart, WindowSize}
 use Rattle.registers.specs.declared.Access.{Access}
 use Rattle.registers.specs.declared.Access.the-variants.{ReadWrite, ReadOnly, WriteOnly}
 use Rattle.registers.specs.declared.Found.{Found}
 use Rattle.registers.specs.declared.Found.the-variants.{At, Nothing}
 
--- Offsets (004, "Address offset" of 32.5.1 to 32.5.6, 32.5.9, 32.5.10).
+-- Offsets (004, "Address offset" of 32.5.1 to 32.5.10).
 abbrev pub offset : Register → ℕ
 offset Control = 0x00
 offset Status = 0x04
@@ -20,12 +20,14 @@ offset RawStatus = 0x08
 offset InterruptEnable = 0x0C
 offset MaskedStatus = 0x10
 offset InterruptClear = 0x14
+offset EmbeddedCode = 0x18
+offset EmbeddedUnmask = 0x1C
 offset WindowStart = 0x20
 offset WindowSize = 0x24
 
--- Every register of the base, in the paper's order.
+-- Every register of the base and of W6 (ESCR, ESUR), by offset.
 abbrev pub every : List Register
-every = Control ∷ Status ∷ RawStatus ∷ InterruptEnable ∷ MaskedStatus ∷ InterruptClear ∷ WindowStart ∷ WindowSize ∷ []
+every = Control ∷ Status ∷ RawStatus ∷ InterruptEnable ∷ MaskedStatus ∷ InterruptClear ∷ EmbeddedCode ∷ EmbeddedUnmask ∷ WindowStart ∷ WindowSize ∷ []
 
 -- The first of some registers that has an offset.
 abbrev pub among : List Register → ℕ → Found
@@ -44,6 +46,8 @@ access RawStatus = ReadOnly
 access InterruptEnable = ReadWrite
 access MaskedStatus = ReadOnly
 access InterruptClear = WriteOnly
+access EmbeddedCode = ReadWrite
+access EmbeddedUnmask = ReadWrite
 access WindowStart = ReadWrite
 access WindowSize = ReadWrite
 
@@ -55,19 +59,23 @@ is-control RawStatus = false
 is-control InterruptEnable = false
 is-control MaskedStatus = false
 is-control InterruptClear = false
+is-control EmbeddedCode = false
+is-control EmbeddedUnmask = false
 is-control WindowStart = false
 is-control WindowSize = false
 
--- The crop window: CWSTRT and CWSIZE.
-abbrev pub is-window : Register → Bool
-is-window Control = false
-is-window Status = false
-is-window RawStatus = false
-is-window InterruptEnable = false
-is-window MaskedStatus = false
-is-window InterruptClear = false
-is-window WindowStart = true
-is-window WindowSize = true
+-- The registers that are not written while ENABLE is 1 (refusal 6): CWSTRT and CWSIZE, and with W6 ESCR and ESUR.
+abbrev pub is-fixed : Register → Bool
+is-fixed Control = false
+is-fixed Status = false
+is-fixed RawStatus = false
+is-fixed InterruptEnable = false
+is-fixed MaskedStatus = false
+is-fixed InterruptClear = false
+is-fixed EmbeddedCode = true
+is-fixed EmbeddedUnmask = true
+is-fixed WindowStart = true
+is-fixed WindowSize = true
 
 -- Bits high:low of a register.
 pub record Range : Type 0 where
@@ -82,6 +90,8 @@ reserved RawStatus = record { high = 31; low = 5 } ∷ []
 reserved InterruptEnable = record { high = 31; low = 5 } ∷ []
 reserved MaskedStatus = record { high = 31; low = 5 } ∷ []
 reserved InterruptClear = record { high = 31; low = 5 } ∷ []
+reserved EmbeddedCode = []
+reserved EmbeddedUnmask = []
 reserved WindowStart = record { high = 31; low = 29 } ∷ record { high = 15; low = 14 } ∷ []
 reserved WindowSize = record { high = 31; low = 30 } ∷ record { high = 15; low = 14 } ∷ []
 

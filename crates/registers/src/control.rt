@@ -81,14 +81,27 @@ fn unsupported_jpeg(cr: u32) -> bool
     false
 }
 
-// Whether the value is one that CR refuses: JPEG otherwise than with EDM 0 and CROP 0, embedded codes, FCRC 3, or CAPTURE without ENABLE.
+// W6: ESS with an EDM other than 0, or with JPEG.
+fn unsupported_codes(cr: u32) -> bool
+    ensures { λ r. ⌜ r ≡ control-fields.unsupported-codes cr ⌝ }
+{
+    if embedded(cr) {
+        if edm(cr) != 0 {
+            return true;
+        }
+        return jpeg(cr);
+    }
+    false
+}
+
+// Whether the value is one that CR refuses: JPEG otherwise than with EDM 0 and CROP 0, ESS otherwise than with EDM 0 and JPEG 0, FCRC 3, or CAPTURE without ENABLE.
 pub fn unsupported(cr: u32) -> bool
     ensures { λ r. ⌜ r ≡ control-fields.unsupported cr ⌝ }
 {
     if unsupported_jpeg(cr) {
         return true;
     }
-    if embedded(cr) {
+    if unsupported_codes(cr) {
         return true;
     }
     if fcrc(cr) == 3 {

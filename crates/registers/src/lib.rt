@@ -1,9 +1,10 @@
 // The register map of the camera interface: the registers with their offsets, access kinds and reserved bits, and the fields of CR,
-// CWSTRT and CWSIZE. Each function answers for every number, and its contract gives the answer by a definition of specs/.
+// ESCR, ESUR, CWSTRT and CWSIZE. Each function answers for every number, and its contract gives the answer by a definition of specs/.
 ghost use mathlib.Core.Path.{_≡_};
-ghost use Rattle.registers.specs.Map.{register-at, access as accessOf, is-control, is-window, reserved-set, reserved as reservedOf, mask};
+ghost use Rattle.registers.specs.Map.{register-at, access as accessOf, is-control, is-fixed, reserved-set, reserved as reservedOf, mask};
 
 pub mod control;
+pub mod delimiters;
 pub mod window;
 
 // The kinds of register.
@@ -14,6 +15,8 @@ pub enum Register {
     InterruptEnable,
     MaskedStatus,
     InterruptClear,
+    EmbeddedCode,
+    EmbeddedUnmask,
     WindowStart,
     WindowSize,
 }
@@ -44,6 +47,10 @@ impl Register {
 
     pub const ICR: u32 = 0x14;
 
+    pub const ESCR: u32 = 0x18;
+
+    pub const ESUR: u32 = 0x1C;
+
     pub const CWSTRT: u32 = 0x20;
 
     pub const CWSIZE: u32 = 0x24;
@@ -70,6 +77,12 @@ impl Register {
         if offset == Register::ICR {
             return Found::At(Register::InterruptClear);
         }
+        if offset == Register::ESCR {
+            return Found::At(Register::EmbeddedCode);
+        }
+        if offset == Register::ESUR {
+            return Found::At(Register::EmbeddedUnmask);
+        }
         if offset == Register::CWSTRT {
             return Found::At(Register::WindowStart);
         }
@@ -90,6 +103,8 @@ impl Register {
             Register::InterruptEnable => Access::ReadWrite,
             Register::MaskedStatus => Access::ReadOnly,
             Register::InterruptClear => Access::WriteOnly,
+            Register::EmbeddedCode => Access::ReadWrite,
+            Register::EmbeddedUnmask => Access::ReadWrite,
             Register::WindowStart => Access::ReadWrite,
             Register::WindowSize => Access::ReadWrite,
         }
@@ -106,14 +121,16 @@ impl Register {
             Register::InterruptEnable => false,
             Register::MaskedStatus => false,
             Register::InterruptClear => false,
+            Register::EmbeddedCode => false,
+            Register::EmbeddedUnmask => false,
             Register::WindowStart => false,
             Register::WindowSize => false,
         }
     }
 
-    // Whether the register is one of the crop window, CWSTRT or CWSIZE.
-    pub fn is_window(self) -> bool
-        ensures { λ r. ⌜ r ≡ is-window self ⌝ }
+    // Whether the register is one that is not written while ENABLE is 1: ESCR, ESUR, CWSTRT or CWSIZE.
+    pub fn is_fixed(self) -> bool
+        ensures { λ r. ⌜ r ≡ is-fixed self ⌝ }
     {
         match self {
             Register::Control => false,
@@ -122,6 +139,8 @@ impl Register {
             Register::InterruptEnable => false,
             Register::MaskedStatus => false,
             Register::InterruptClear => false,
+            Register::EmbeddedCode => true,
+            Register::EmbeddedUnmask => true,
             Register::WindowStart => true,
             Register::WindowSize => true,
         }
@@ -138,6 +157,8 @@ impl Register {
             Register::InterruptEnable => 0xFFFF_FFE0,
             Register::MaskedStatus => 0xFFFF_FFE0,
             Register::InterruptClear => 0xFFFF_FFE0,
+            Register::EmbeddedCode => 0,
+            Register::EmbeddedUnmask => 0,
             Register::WindowStart => 0xE000_C000,
             Register::WindowSize => 0xC000_C000,
         }

@@ -14,7 +14,7 @@ use mathlib.Core.Path.{_≡_, refl}
 use Prim.Native.Nat.{ℕ, zero, suc, _+_, _-_}
 use lib.Dec.{eqb}
 use lib.ListN.{length, drop, replicate}
-use Rattle.registers.specs.Map.{offset, every, access, is-control, is-window, reserved, mask}
+use Rattle.registers.specs.Map.{offset, every, access, is-control, is-fixed, reserved, mask}
 use Rattle.registers.specs.declared.Register.{Register}
 use Rattle.registers.specs.declared.Register.the-variants.{Control, Status, RawStatus, InterruptEnable, InterruptClear, WindowStart, WindowSize}
 use Rattle.registers.specs.declared.Access.{Access}
@@ -299,21 +299,21 @@ by-rule =
     (leaves (0 ∷ 0 ∷ 0 ∷ 0 ∷ 0 ∷ 0 ∷ []) [] 0 4 0x4021 0x18 3) ∷
     []
 
--- By register. What the map has of one: offset, access kind, reserved bits as a mask, whether it is CR, and whether it is of the crop window.
+-- By register. What the map has of one: offset, access kind, reserved bits as a mask, whether it is CR, and whether it is fixed while ENABLE is 1.
 pub record Mapped : Type 0 where
   pub offset : ℕ
   pub access : Access
   pub reserved : ℕ
   pub control : Bool
-  pub window : Bool
+  pub fixed : Bool
 
 abbrev pub mapped : ℕ → Access → ℕ → Bool → Bool → Mapped
-mapped o a m c w = record { offset = o; access = a; reserved = m; control = c; window = w }
+mapped o a m c w = record { offset = o; access = a; reserved = m; control = c; fixed = w }
 
 abbrev pub map-of : Register → Mapped
-map-of r = mapped (offset r) (access r) (mask (reserved r)) (is-control r) (is-window r)
+map-of r = mapped (offset r) (access r) (mask (reserved r)) (is-control r) (is-fixed r)
 
--- "Registers", in the paper's order: CR, SR, RIS, IER, MIS, ICR, CWSTRT, CWSIZE.
+-- "Registers", in the paper's order: CR, SR, RIS, IER, MIS, ICR, ESCR and ESUR (W6), CWSTRT, CWSIZE.
 abbrev pub by-register : List Mapped
 by-register =
     mapped 0x00 ReadWrite 0xFFFFB000 true false ∷
@@ -322,6 +322,8 @@ by-register =
     mapped 0x0C ReadWrite 0xFFFFFFE0 false false ∷
     mapped 0x10 ReadOnly 0xFFFFFFE0 false false ∷
     mapped 0x14 WriteOnly 0xFFFFFFE0 false false ∷
+    mapped 0x18 ReadWrite 0 false true ∷
+    mapped 0x1C ReadWrite 0 false true ∷
     mapped 0x20 ReadWrite 0xE000C000 false true ∷
     mapped 0x24 ReadWrite 0xC000C000 false true ∷
     []
@@ -469,6 +471,8 @@ by-call =
     a-read 0x0C ▸ reads 0 ∷
     a-read 0x10 ▸ reads 0 ∷
     a-read 0x14 ▸ refused 3 ∷
+    a-read 0x18 ▸ reads 0 ∷
+    a-read 0x1C ▸ reads 0 ∷
     a-read 0x20 ▸ reads 0 ∷
     a-read 0x24 ▸ reads 0 ∷
     the-line ▸ line false ∷
@@ -507,10 +511,9 @@ by-call =
     -- refusals 2 and 3, before 4
     log fresh []
     (a-read 0x01 ▸ refused 2 ∷
-    a-read 0x18 ▸ refused 2 ∷
-    a-read 0x1C ▸ refused 2 ∷
+    a-read 0x19 ▸ refused 2 ∷
     a-read 0x28 ▸ refused 2 ∷
-    all-refused 2 (0x01 ≔ 0 ∷ 0x18 ≔ 0 ∷ 0x1C ≔ 0 ∷ 0x28 ≔ 0xFFFFFFFF ∷ []) ++
+    all-refused 2 (0x01 ≔ 0 ∷ 0x19 ≔ 0 ∷ 0x28 ≔ 0xFFFFFFFF ∷ []) ++
     all-refused 3 (0x04 ≔ 0 ∷ 0x08 ≔ 0 ∷ 0x10 ≔ 0 ∷ 0x10 ≔ 0xFFFFFFFF ∷ [])) ∷
     -- refusal 4: the lowest and the highest bit of each range of reserved bits; all other bits can be 1
     log fresh []
@@ -527,9 +530,9 @@ by-call =
     a-read CWSTRT ▸ reads 0x1FFF3FFF ∷
     a-read CWSIZE ▸ reads 0x3FFF3FFF ∷
     []) ∷
-    -- refusal 5: ESS, FCRC 3, CAPTURE 1 with ENABLE 0 (JPEG is in RequestSheet); 4 and 5 are before 6
+    -- refusal 5: FCRC 3, CAPTURE 1 with ENABLE 0 (JPEG and ESS are in RequestSheet); 4 and 5 are before 6
     log fresh []
-    (all-refused 5 (CR ≔ 0x10 ∷ CR ≔ 0x300 ∷ CR ≔ 0x01 ∷ []) ++
+    (all-refused 5 (CR ≔ 0x300 ∷ CR ≔ 0x01 ∷ []) ++
     a-write CR 0x4001 ▸ done ∷
     all-refused 5 (CR ≔ 0x4301 ∷ []) ++
     all-refused 4 (CWSTRT ≔ 0x4000 ∷ CR ≔ 0x5003 ∷ [])) ∷

@@ -4,3 +4,4 @@ pub mod WellFormed
 pub mod BenchSheet
 pub mod CropWindow
 pub mod RequestSheet
+pub mod CodesSheet

@@ -3,6 +3,7 @@
 --   early-frame W1, FRAME when the window's last line ends
 --   depths      W9, a FIFO of another depth; and depth-judged, the devices that its clause of "malformed" judges
 --   compressed  W4, compressed pictures; and jpeg-judged, the devices with JPEG 1 that "malformed" judges
+-- W6, codes in the data, has a sheet of its own, `CodesSheet`.
 use mathlib.Core.Bool.{true, false}
 use mathlib.Core.List.{List, [], _∷_, _++_, map}
 use mathlib.Core.Option.{none, some}
@@ -10,6 +11,7 @@ use mathlib.Core.Path.{_≡_, refl}
 use Prim.Native.Nat.{ℕ, zero, suc, _+_, _-_}
 use lib.ListN.{length, replicate}
 use Rattle.output.specs.Output.{slot-count}
+use Rattle.codes.specs.declared.Waiting.the-variants.{Zero}
 use Rattle.rules.specs.declared.Frame.{Frame}
 use Rattle.rules.specs.declared.Frame.the-variants.{Closed, Open}
 use Rattle.rules.specs.declared.Capture.{Capture}
@@ -452,12 +454,13 @@ jpeg-judged =
 pub request-sheet : (map played early-frame ≡ map (λ l. map (λ e. e .said) (l .entries)) early-frame)
     × (at-the-early-moment ≡
     record {
-      registers = record { cr = 0x49E5; ris = 0x19; ier = 0; cwstrt = 0; cwsize = 0 };
+      registers = record { cr = 0x49E5; ris = 0x19; ier = 0; cwstrt = 0; cwsize = 0; escr = 0; esur = 0 };
       pins = record { hsync = true; vsync = false; clock = true };
       frame = Open true (record { lines = 1; pixels = 2 });
       syncs = record { hsync = true; vsync = false };
       rate = 1;
       partial = record { count = 1; bits = 5 };
+      waiting = Zero;
     })
     × (map played depths ≡ map (λ l. map (λ e. e .said) (l .entries)) depths)
     × (map (λ j. malformed (j .device)) depth-judged ≡ map (λ j. j .malformed) depth-judged)
@@ -466,21 +469,23 @@ pub request-sheet : (map played early-frame ≡ map (λ l. map (λ e. e .said) (
     × (in-a-compressed-frame ≡ Open true (record { lines = 2; pixels = 1 }))
     × (at-a-padded-end ≡
     record {
-      registers = record { cr = 0x41E9; ris = 0x19; ier = 0; cwstrt = 0; cwsize = 0 };
+      registers = record { cr = 0x41E9; ris = 0x19; ier = 0; cwstrt = 0; cwsize = 0; escr = 0; esur = 0 };
       pins = record { hsync = true; vsync = true; clock = true };
       frame = Closed;
       syncs = record { hsync = true; vsync = true };
       rate = 1;
       partial = record { count = 0; bits = 0 };
+      waiting = Zero;
     })
     × (at-a-lost-end ≡
     record {
-      registers = record { cr = 0x40EA; ris = 0x1A; ier = 0; cwstrt = 0; cwsize = 0 };
+      registers = record { cr = 0x40EA; ris = 0x1A; ier = 0; cwstrt = 0; cwsize = 0; escr = 0; esur = 0 };
       pins = record { hsync = false; vsync = true; clock = true };
       frame = Closed;
       syncs = record { hsync = false; vsync = true };
       rate = 0;
       partial = record { count = 0; bits = 0 };
+      waiting = Zero;
     })
     × (map (λ j. malformed (j .device)) jpeg-judged ≡ map (λ j. j .malformed) jpeg-judged)
 unfolding told told-by played early-frame at-the-early-moment pixels-up depths depth-judged made-of compressed in-a-compressed-frame at-a-padded-end at-a-lost-end jpeg-judged every-rule

@@ -1,11 +1,12 @@
 -- Rules 2 to 8 of one sample (document 01, "One sample"), over the capture state: no FIFO, no memory and no grant. A sample answers
 -- no word or one for rule 9, and whether FRAME is due after it. Each rule is a definition of its own, in the paper's order; the manual's section stands beside its number.
+-- With ESS 1 codes stand in place of the sync pins (W6): `Codes`. A sample whole: `Sample`.
 use mathlib.Core.Bool.{Bool, false, cond, not, _&&_, _||_, Bool·beq}
 use mathlib.Core.Option.{Option, none, some}
 use Prim.Native.Nat.{ℕ, _+_, _-_, _%_}
 use lib.Dec.{eqb, ltb, leb}
 use Rattle.registers.specs.Control.{capture, snapshot, crop, jpeg, pckpol, hspol, vspol, fcrc, edm, enable}
-use Rattle.samples.specs.Samples.{pixel-data, hsync-pin, vsync-pin, clock-pin}
+use Rattle.samples.specs.Samples.{hsync-pin, vsync-pin, clock-pin}
 use Rattle.packing.specs.Packing.{per-word, joined}
 use Rattle.rules.specs.declared.Syncs.{Syncs}
 use Rattle.rules.specs.declared.Scan.{Scan}
@@ -15,14 +16,16 @@ use Rattle.rules.specs.declared.Capture.{Capture}
 use Rattle.rules.specs.CropWindow.{lines-to-window-end, inside}
 use Rattle.rules.specs.State.{no-partial, raise, clear-capture, close-frame, with-pins, with-syncs, with-frame, with-rate, with-partial}
 
--- What the rules 2 to 8 make of a sample: the state after it; the full word, or the padded one (W4), if there is one; and whether FRAME is due.
+-- What the rules 2 to 8 make of a sample: the state after it; the full word, or the padded one (W4), if there is one; whether FRAME is due; and
+-- whether ERR rose (W6): then the held words are discarded.
 pub record Captured : Type 0 where
   pub state : Capture
   pub word : Option ℕ
   pub due : Bool
+  pub error : Bool
 
 unfoldable pub no-word : Capture → Captured
-no-word s = record { state = s; word = none; due = false }
+no-word s = record { state = s; word = none; due = false; error = false }
 
 -- FRAME, where it is due. W4: it rises after rule 9, and not with a word that overruns.
 unfoldable pub flagged : Captured → Capture
@@ -101,7 +104,7 @@ frame-pads s now = cond (now .vsync) (padded (s .frame) s) none
 
 -- Rule 4: the frame's end, the word that it pads, and FRAME.
 unfoldable pub frame-end : Capture → Syncs → Captured
-frame-end s now = record { state = frame-closes s now; word = frame-pads s now; due = frame-due (s .frame) s now }
+frame-end s now = record { state = frame-closes s now; word = frame-pads s now; due = frame-due (s .frame) s now; error = false }
 
 -- Rule 5 (004, 32.5.1 FCRC): the rate counter counts modulo 1, 2 or 4.
 unfoldable pub rate-period : ℕ → ℕ
@@ -155,7 +158,7 @@ unfoldable pub pack : Capture → ℕ → Captured
 pack s x =
     cond (ltb (s .partial .count + 1) (per-word (edm (s .registers .cr))))
     (no-word (with-partial (record { count = s .partial .count + 1; bits = packed-bits s x }) s))
-    (record { state = with-partial no-partial s; word = some (packed-bits s x); due = false })
+    (record { state = with-partial no-partial s; word = some (packed-bits s x); due = false; error = false })
 
 -- Rules 6 to 8 at a pixel of an open frame, taken or not: its place, whether it is captured, and the packing.
 unfoldable pub pixel : Capture → Bool → Scan → ℕ → Captured
@@ -182,15 +185,4 @@ unfoldable pub at-edge : Capture → Syncs → ℕ → Captured
 at-edge s now x =
     let e = frame-end (sync-flags s now) now in
     let p = pixel-edge (frame-start (e .state) now) now x in
-    record { state = with-syncs now (p .state); word = either-word (e .word) (p .word); due = e .due }
-
--- Rules 2 to 8: without a working edge, or with ENABLE 0, the sample is over. No rule from 3 on reads the levels that rule 2 remembers.
-unfoldable pub capture-sample : Capture → ℕ → Captured
-capture-sample s w =
-    cond (working-edge s w && enabled s)
-    (at-edge (remember-pins w s) (blanking s w) (pixel-data w))
-    (no-word (remember-pins w s))
-
--- The state after a sample that loses no word.
-unfoldable pub next-capture : Capture → ℕ → Capture
-next-capture s w = flagged (capture-sample s w)
+    record { state = with-syncs now (p .state); word = either-word (e .word) (p .word); due = e .due; error = false }

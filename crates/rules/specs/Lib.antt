@@ -1,6 +1,8 @@
 pub mod State
 pub mod CropWindow
 pub mod Capture
+pub mod Codes
+pub mod Sample
 pub mod Answers
 pub mod WellFormed
 pub mod RegisterCalls

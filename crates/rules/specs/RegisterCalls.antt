@@ -5,21 +5,24 @@ use Prim.Native.Nat.{ℕ, _+_, _-_}
 use lib.Bits.{bitAnd}
 use lib.Dec.{eqb, ltb}
 use Rattle.bits.specs.Bits.{field}
-use Rattle.registers.specs.Control.{capture, hspol, vspol, enable, unsupported}
-use Rattle.registers.specs.Map.{register-at, access, is-control, is-window, reserved-set}
+use Rattle.registers.specs.Control.{capture, embedded, hspol, vspol, enable, unsupported}
+use Rattle.registers.specs.Map.{register-at, access, is-control, is-fixed, reserved-set}
 use Rattle.registers.specs.declared.Register.{Register}
-use Rattle.registers.specs.declared.Register.the-variants.{Control, Status, RawStatus, InterruptEnable, MaskedStatus, InterruptClear, WindowStart, WindowSize}
+use Rattle.registers.specs.declared.Register.the-variants.{Control, Status, RawStatus, InterruptEnable, MaskedStatus, InterruptClear, EmbeddedCode, EmbeddedUnmask, WindowStart, WindowSize}
 use Rattle.registers.specs.declared.Access.{Access}
 use Rattle.registers.specs.declared.Access.the-variants.{ReadWrite, ReadOnly, WriteOnly}
 use Rattle.registers.specs.declared.Found.{Found}
 use Rattle.registers.specs.declared.Found.the-variants.{At, Nothing}
+use Rattle.codes.specs.declared.Waiting.the-variants.{Zero}
+use Rattle.rules.specs.declared.Syncs.{Syncs}
 use Rattle.rules.specs.declared.Frame.the-variants.{Closed}
 use Rattle.rules.specs.declared.Registers.{Registers}
 use Rattle.rules.specs.declared.Capture.{Capture}
 use Rattle.rules.specs.declared.Device.{Device}
 use Rattle.output.specs.Output.{with-place, discard}
 use Rattle.output.specs.WellFormed.{bad-depth}
-use Rattle.rules.specs.State.{device, capture-of, output-of, fresh-of, fresh, is-open, not-blanking, close-frame, with-cr, with-ris, with-ier, with-cwstrt, with-cwsize, with-registers, with-syncs, with-frame, with-rate}
+use Rattle.rules.specs.State.{device, capture-of, output-of, fresh-of, fresh, is-open, not-blanking, close-frame, with-cr, with-ris, with-ier, with-cwstrt, with-cwsize, with-escr, with-esur, with-registers, with-syncs, with-frame, with-rate, with-waiting}
+use Rattle.rules.specs.Codes.{coded-syncs}
 use Rattle.refusals.specs.Refusals.{Test, _⇒_, first, Answer, answer}
 use Rattle.rules.specs.Answers.{Changed, change}
 use Rattle.rules.specs.WellFormed.{malformed}
@@ -28,11 +31,19 @@ use Rattle.rules.specs.WellFormed.{malformed}
 abbrev pub number-if : Bool → ℕ → ℕ
 number-if t n = cond t n 0
 
--- SR (004, 32.5.2): HSYNC and VSYNC while that pin of the last sample blanks, FNE while a word is held.
+-- Whether each sync blanks, for SR: by the pins of the last sample; with ESS 1 HSYNC outside a line and VSYNC outside a frame (W6).
+unfoldable pub pin-syncs : Capture → Syncs
+pin-syncs s =
+    record { hsync = Bool·beq (s .pins .hsync) (hspol (s .registers .cr)); vsync = Bool·beq (s .pins .vsync) (vspol (s .registers .cr)) }
+
+unfoldable pub shown-syncs : Capture → Syncs
+shown-syncs s = cond (embedded (s .registers .cr)) (coded-syncs s) (pin-syncs s)
+
+-- SR (004, 32.5.2): HSYNC and VSYNC while they blank, FNE while a word is held.
 unfoldable pub status : Device → ℕ
 status d =
-    number-if (Bool·beq (d .core .capture .pins .hsync) (hspol (d .core .capture .registers .cr))) 1 +
-    number-if (Bool·beq (d .core .capture .pins .vsync) (vspol (d .core .capture .registers .cr))) 2 +
+    number-if (shown-syncs (d .core .capture) .hsync) 1 +
+    number-if (shown-syncs (d .core .capture) .vsync) 2 +
     number-if (ltb 0 (d .core .output .held)) 4
 
 -- MIS (004, 32.5.5): the bits that are 1 in both RIS and IER.
@@ -47,6 +58,8 @@ value d RawStatus = d .core .capture .registers .ris
 value d InterruptEnable = d .core .capture .registers .ier
 value d MaskedStatus = masked (d .core .capture .registers)
 value d InterruptClear = 0
+value d EmbeddedCode = d .core .capture .registers .escr
+value d EmbeddedUnmask = d .core .capture .registers .esur
 value d WindowStart = d .core .capture .registers .cwstrt
 value d WindowSize = d .core .capture .registers .cwsize
 
@@ -89,7 +102,7 @@ abbrev pub reserved-at : Found → ℕ → Bool
 reserved-at Nothing v = false
 reserved-at (At r) v = reserved-set r v
 
--- Refusal 5: a CR value with JPEG 1 otherwise than with EDM 0 and CROP 0 (W4), ESS 1, FCRC 3, or CAPTURE 1 and ENABLE 0.
+-- Refusal 5: a CR value with JPEG 1 otherwise than with EDM 0 and CROP 0 (W4), ESS 1 with an EDM other than 0 or with JPEG 1 (W6), FCRC 3, or CAPTURE 1 and ENABLE 0.
 abbrev pub unsupported-at : Found → ℕ → Bool
 unsupported-at Nothing v = false
 unsupported-at (At r) v = is-control r && unsupported v
@@ -98,9 +111,9 @@ unsupported-at (At r) v = is-control r && unsupported v
 unfoldable pub changes-setup : ℕ → ℕ → Bool
 changes-setup cr v = not (eqb (field 13 1 cr) (field 13 1 v)) || not (eqb (field 31 15 cr) (field 31 15 v))
 
--- Refusal 6: ENABLE is 1 and CWSTRT or CWSIZE is written, or a CR bit other than 0 and 14 would change.
+-- Refusal 6: ENABLE is 1 and CWSTRT, CWSIZE, ESCR or ESUR (W6) is written, or a CR bit other than 0 and 14 would change.
 abbrev pub fixed : ℕ → Register → ℕ → Bool
-fixed cr r v = is-window r || (is-control r && changes-setup cr v)
+fixed cr r v = is-fixed r || (is-control r && changes-setup cr v)
 
 abbrev pub fixed-at : ℕ → Found → ℕ → Bool
 fixed-at cr Nothing v = false
@@ -113,13 +126,13 @@ register-tests cr r v = missing r ⇒ 2 ∷ unwritable r ⇒ 3 ∷ reserved-at r
 unfoldable pub write-refusal : Device → ℕ → ℕ → ℕ
 write-refusal d offset v = first (malformed d ⇒ 1 ∷ register-tests (d .core .capture .registers .cr) (register-at offset) v)
 
--- Writing CR, ENABLE 0 to 1: remembered syncs become "not blanking", no frame is open, the rate counter is 0.
+-- Writing CR, ENABLE 0 to 1: remembered syncs become "not blanking", no frame is open, the rate counter is 0. No byte waits (W6).
 unfoldable pub enabling : Capture → Capture
-enabling s = with-rate 0 (with-frame Closed (with-syncs not-blanking s))
+enabling s = with-rate 0 (with-frame Closed (with-syncs not-blanking (with-waiting Zero s)))
 
--- ENABLE 1 to 0: the partial word is dropped, the frame is closed, the rate counter is 0, flags stay.
+-- ENABLE 1 to 0: the partial word is dropped, the frame is closed, the rate counter is 0, flags stay. Waiting bytes are dropped (W6).
 unfoldable pub disabling : Capture → Capture
-disabling s = with-rate 0 (close-frame s)
+disabling s = with-rate 0 (close-frame (with-waiting Zero s))
 
 unfoldable pub switch-enable : ℕ → Capture → Capture
 switch-enable v s =
@@ -149,6 +162,8 @@ write-register RawStatus v s = s
 write-register InterruptEnable v s = with-registers (with-ier v (s .registers)) s
 write-register MaskedStatus v s = s
 write-register InterruptClear v s = with-registers (clear-flags v (s .registers)) s
+write-register EmbeddedCode v s = with-registers (with-escr v (s .registers)) s
+write-register EmbeddedUnmask v s = with-registers (with-esur v (s .registers)) s
 write-register WindowStart v s = with-registers (with-cwstrt v (s .registers)) s
 write-register WindowSize v s = with-registers (with-cwsize v (s .registers)) s
 

@@ -14,7 +14,8 @@ use Rattle.output.specs.Output.{OutputState, count-sample, grant, offer, discar
 use Rattle.rules.specs.declared.Capture.{Capture}
 use Rattle.rules.specs.declared.Device.{Device}
 use Rattle.rules.specs.State.{device, capture-of, output-of, raise, clear-capture, close-frame}
-use Rattle.rules.specs.Capture.{Captured, enabled, flagged, capture-sample}
+use Rattle.rules.specs.Capture.{Captured, enabled, flagged}
+use Rattle.rules.specs.Sample.{capture-sample}
 use Rattle.rules.specs.WellFormed.{malformed}
 
 -- Whether a sample completed no word, completed one, with its value, or lost one.
@@ -41,8 +42,12 @@ after-word Lost v c x = record { device = device (lose-frame (c .state)) (discar
 unfoldable pub full-word : ℕ → Captured → OutputState → Completed
 full-word v c x = after-word (offer v x .fate) v c (offer v x .state)
 
+-- W6: where ERR rose the held words are discarded. There is no word then.
+unfoldable pub without-word : Captured → OutputState → OutputState
+without-word c x = cond (c .error) (discard 0 x) x
+
 unfoldable pub complete : Option ℕ → Captured → OutputState → Completed
-complete none c x = record { device = device (flagged c) x; packed = nothing }
+complete none c x = record { device = device (flagged c) (without-word c x); packed = nothing }
 complete (some v) c x = full-word v c x
 
 -- Rules 2 to 9 after the grant.

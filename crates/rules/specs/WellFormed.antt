@@ -39,7 +39,7 @@ unused-bits s = not (eqb (s .partial .bits / 2 ^ (width (edm (s .registers .cr))
 unfoldable pub full-partial : Capture → Bool
 full-partial s = leb (per-word (edm (s .registers .cr))) (s .partial .count)
 
--- Register contents that refusals 4 and 5 exclude.
+-- Register contents that refusals 4 and 5 exclude. ESCR and ESUR have no reserved bits (W6).
 unfoldable pub excluded : Registers → Bool
 excluded r =
     one-holds

@@ -1,6 +1,7 @@
 // The state of the camera interface, as plain data. What the calls make of it is defined in specs/, in the paper's order and words;
 // proofs/ has the laws of those definitions and the bench sheet's cases. There is no code here: the functions stand in the crates above.
 // The order of the fields means nothing to the rules; it decides what the compiler keeps in registers (docs/SPEED.md).
+use codes::Waiting;
 use output::Output;
 use output::SLOTS;
 
@@ -11,6 +12,8 @@ pub struct Registers {
     pub ier: u32,
     pub cwstrt: u32,
     pub cwsize: u32,
+    pub escr: u32,
+    pub esur: u32,
 }
 
 // The pins' levels at the last sample.
@@ -26,7 +29,7 @@ pub struct Syncs {
     pub vsync: bool,
 }
 
-// The place in an open frame: the lines begun in it, and the pixels of the last line.
+// The place in an open frame: the lines begun in it, and the pixels of the last line. With ESS 1 these are the bytes of the last line, those that wait included (W6).
 pub struct Scan {
     pub lines: u32,
     pub pixels: u32,
@@ -44,13 +47,15 @@ pub struct Partial {
     pub bits: u32,
 }
 
-// What the rules 2 to 8 read and change. `syncs` is whether each sync blanked at the last working edge; `rate` is the rate counter.
+// What the rules 2 to 8 read and change. `syncs` is whether each sync blanked at the last working edge, with ESS 1 by the codes (W6); `rate` is the rate counter; `waiting`
+// is how many bytes wait that begin like a code (W6).
 pub struct Capture {
     pub registers: Registers,
     pub pins: Pins,
     pub frame: Frame,
     pub syncs: Syncs,
     pub rate: u32,
+    pub waiting: Waiting,
     pub partial: Partial,
 }
 

@@ -10,6 +10,7 @@ ghost use Rattle.sampling.specs.Answers as sample-answers;
 ghost use Rattle.sample_log.specs.Samples.{trace-t, samples};
 use device::Reading;
 use device::Reply;
+use full_word::Packing;
 use libc::STDOUT_FILENO;
 use output::Landing;
 use output::SLOTS;
@@ -17,7 +18,6 @@ use refusals::Outcome;
 use registers::Register;
 use rules::Device;
 use rules::Partial;
-use sampling::Packing;
 
 fn text(t: &[u8]) {
     io::write_all(STDOUT_FILENO, t);

@@ -3,3 +3,4 @@ pub mod Noted
 pub mod Going
 pub mod Stretches
 pub mod AcceptedRuns
+pub mod DataBytes

@@ -1,12 +1,15 @@
 -- What is noted along some samples changes neither device nor buffer; and of one sample, from places of zeros, it is the sample's two answers.
 -- The idea: by the cases of each answer. Assumes nothing.
-use mathlib.Core.List.{List, [], _∷_}
+use mathlib.Core.List.{List, [], _∷_, _++_}
 use mathlib.Core.Option.{Option, none, some}
 use mathlib.Core.Path.{_≡_, refl}
 use Prim.Native.Nat.{ℕ}
+use lib.ListN.{take, drop}
+use Rattle.refusals.specs.Refusals.{answered}
 use Rattle.rules.specs.declared.Device.{Device}
-use Rattle.rules.specs.Run.{Packed, nothing, completed, lost, Stepped, step, Ran, steps}
-use Rattle.sampling.specs.Notes.{note-landing, note-packing, noted-landing, noted-packing, Noted, noted-step, noted-steps}
+use Rattle.rules.specs.Run.{Packed, nothing, completed, lost, Stepped, step, Ran, steps, run-refusal, in-memory, SampleResult, sample}
+use Rattle.full_word.specs.Notes.{note-landing, note-packing, noted-landing, noted-packing}
+use Rattle.sampling.specs.Notes.{Noted, noted-step, noted-steps}
 
 pub same-run : (n : Noted) (ws : List ℕ)
     → _≡_ {A = Ran} (record { device = noted-steps n ws .device; buffer = noted-steps n ws .buffer }) (steps (n .device) (n .buffer) ws)
@@ -32,3 +35,11 @@ pub one-sample : (d : Device) (b : List ℕ) (w : ℕ) {n : Noted}
     (step d b w)
 unfolding noted-steps noted-step
 one-sample d b w e = rw (e, landing-back, packing-back)
+
+-- A single sample that is accepted.
+pub accepted-sample : (d : Device) (memory : List ℕ) (start w : ℕ) {r : Stepped} → run-refusal d memory start (w ∷ []) ≡ 0 → r ≡ step d (drop start memory) w
+    → _≡_ {A = SampleResult}
+    (record { answer = answered (record { landing = in-memory start (r .landing); packed = r .packed }); device = r .device; memory = take start memory ++ r .buffer })
+    (sample d memory start w)
+unfolding sample
+accepted-sample d memory start w accepted one = rw (accepted, one)

@@ -1,15 +1,14 @@
 -- What the calls inside a sample ask, of a well-formed device that can count one sample more; and the sample from what they leave. Assumes nothing.
 use mathlib.Core.List.{List}
-use mathlib.Core.Path.{_≡_, refl, ap}
+use mathlib.Core.Path.{_≡_, ap}
 use Prim.Native.Nat.{ℕ, _+_, _≤_, _<_, _^_}
 use native.Mathlib.Omega.{arith}
+use Rattle.registers.specs.Control.{embedded}
 use Rattle.samples.specs.Samples.{bus-grant}
 use lib.ListN.{length}
 use mathlib.Core.Bool.{true, false}
-use mathlib.Core.Option.{none, some}
-use Rattle.output.specs.declared.Fate.{Fate}
-use Rattle.output.specs.declared.Fate.the-variants.{Held, Lost}
-use Rattle.output.specs.Output.{OutputState, slot-count, with-counts, count-sample, Granted, grant}
+use mathlib.Core.Option.{some}
+use Rattle.output.specs.Output.{slot-count, with-counts, count-sample, Granted, grant}
 use Rattle.output.specs.WellFormed.{Laid}
 use Rattle.output.proofs.Contents.{not-malformed-laid}
 use Rattle.output.proofs.Untouched.{grant-untouched}
@@ -17,20 +16,23 @@ use Rattle.rules.specs.WellFormed.{malformed, clauses}
 use Rattle.rules.proofs.Booleans.{none as all-false}
 use Rattle.rules.specs.declared.Capture.{Capture}
 use Rattle.rules.specs.declared.Device.{Device}
-use Rattle.rules.specs.State.{device, capture-of, output-of, with-pins, with-syncs, raise}
-use Rattle.rules.specs.Capture.{enabled, Captured, flagged}
-use Rattle.rules.specs.Run.{counted, nothing, completed, lost, Completed, after-word, full-word, complete, after-grant, step}
+use Rattle.rules.specs.State.{device, capture-of, output-of, with-pins, with-syncs}
+use Rattle.rules.specs.Capture.{enabled, Captured}
+use Rattle.rules.specs.Sample.{capture-sample}
+use Rattle.rules.specs.Run.{counted, completed, Completed, full-word, complete, after-grant, step}
 use Rattle.rules.proofs.WellFormed.{CaptureOk, WellFormed, facts}
-use Rattle.sampling.specs.Notes.{note-landing, note-packing, Noted, noted-step}
+use Rattle.full_word.specs.Notes.{note-landing, note-packing}
+use Rattle.sampling.specs.Notes.{Noted, noted-step}
 use Rattle.laws.specs.Padding.{padded-at}
 use Rattle.laws.specs.Before.{frame-end-before-W4, capture-sample-by, step-by}
 use Rattle.laws.proofs.RegisterValues.{uncropped}
 use Rattle.laws.proofs.CaptureParts.{pins-syncs-ok}
-use Rattle.laws.proofs.Moved.{sample-ok}
+use Rattle.laws.proofs.Sampled.{sample-ok}
 use Rattle.laws.proofs.Before.{step-unpadded}
 use Rattle.laws.proofs.Unpadded.{sample-padded}
 use Rattle.capture.specs.Answers.{ended}
-use Rattle.sampling.specs.Answers.{with-word}
+use Rattle.full_word.specs.Answers.{with-word}
+use Rattle.sampling.specs.Unpadded.{Plain}
 use Rattle.laws.proofs.KeepsSample.{counted-laid}
 
 pub more-lines : {m n : ℕ} {s : Capture} → m ≤ n → CaptureOk m s → CaptureOk n s
@@ -64,44 +66,33 @@ module _ (d : Device) (b : List ℕ) (w : ℕ) (well : WellFormed d) (laid : Lai
       )
 
 -- A sample that pads no word, from what rule 1, rules 2 to 8 and rule 9 leave and answer.
-pub stepped : (d : Device) (b l v : List ℕ) (w : ℕ) {g : Granted} {c : Captured} {r : Completed} → padded-at (capture-of d) w ≡ none → g ≡ granted-of d b w
+pub stepped : (d : Device) (b l v : List ℕ) (w : ℕ) {g : Granted} {c : Captured} {r : Completed} → Plain (capture-of d) w → g ≡ granted-of d b w
     → c ≡ capture-sample-by frame-end-before-W4 (capture-of d) w → r ≡ complete (c .word) c (g .state)
     → _≡_ {A = Noted}
     (record { device = r .device; buffer = g .buffer; landings = note-landing (g .landing) l; words = note-packing (r .packed) v })
     (noted-step (record { device = d; buffer = b; landings = l; words = v }) w)
 unfolding noted-step step-by
-stepped d b l v w unpadded granted captured after = rw (step-unpadded d b w unpadded, after, captured, granted)
+stepped d b l v w (plain, unpadded) granted captured after = rw (step-unpadded d b w plain unpadded, after, captured, granted)
 
 -- A sample that pads one: the same with the padded word.
-pub ended-fits : {n : ℕ} {s : Capture} (w v : ℕ) → CaptureOk n s → padded-at s w ≡ some v → ended s w .registers .ris ≤ 31
+pub ended-fits : {n : ℕ} {s : Capture} (w v : ℕ) → CaptureOk n s → embedded (s .registers .cr) ≡ false → padded-at s w ≡ some v → ended s w .registers .ris ≤ 31
 unfolding ended
-ended-fits {s = s} w v h e = rw (← ap (λ (c : Captured). c .state) (sample-padded s w v (uncropped (s .registers) (h .allowed)) e)) (sample-ok w h .ris)
+ended-fits {s = s} w v h plain e = rw (← ap (λ (c : Captured). c .state) (sample-padded s w v plain (uncropped (s .registers) (h .allowed)) e)) (sample-ok w h .ris)
 
-pub stepped-padded : (d : Device) (b l v : List ℕ) (w : ℕ) {g : Granted} {r : Completed} → WellFormed d → padded-at (capture-of d) w ≡ some (d .core .capture .partial .bits)
+pub stepped-padded : (d : Device) (b l v : List ℕ) (w : ℕ) {g : Granted} {r : Completed} → WellFormed d → embedded (d .core .capture .registers .cr) ≡ false → padded-at (capture-of d) w ≡ some (d .core .capture .partial .bits)
     → g ≡ granted-of d b w → r ≡ full-word (d .core .capture .partial .bits) (with-word (d .core .capture .partial .bits) true (ended (capture-of d) w)) (g .state)
     → _≡_ {A = Noted}
     (record { device = r .device; buffer = g .buffer; landings = note-landing (g .landing) l; words = note-packing (r .packed) v })
     (noted-step (record { device = d; buffer = b; landings = l; words = v }) w)
 unfolding noted-step step after-grant complete ended
-stepped-padded d b l v w well padded granted after =
-    rw (sample-padded (capture-of d) w (d .core .capture .partial .bits) (uncropped (d .core .capture .registers) (well .capture .allowed)) padded, after, granted)
+stepped-padded d b l v w well plain padded granted after =
+    rw (sample-padded (capture-of d) w (d .core .capture .partial .bits) plain (uncropped (d .core .capture .registers) (well .capture .allowed)) padded, after, granted)
 
--- Rule 9 of a padded word from that of a full one: FRAME rises where it is held.
-pub held-flagged : (fate : Fate) (v n : ℕ) (s : Capture) (x : OutputState) → after-word fate v (with-word v false s) x .packed ≡ completed n
-    → after-word fate v (with-word v true s) x
-    ≡ record { device = device (raise 0 s) (output-of (after-word fate v (with-word v false s) x .device)); packed = after-word fate v (with-word v false s) x .packed }
-unfolding after-word flagged
-held-flagged Held v n s x e = refl
-held-flagged Lost v n s x e = let z : _≡_ {A = ℕ} 0 1 = cc in absurd (omega arith)
-
-pub lost-same : (fate : Fate) (v : ℕ) (s : Capture) (x : OutputState) → after-word fate v (with-word v false s) x .packed ≡ lost
-    → after-word fate v (with-word v true s) x ≡ after-word fate v (with-word v false s) x
-unfolding after-word flagged
-lost-same Held v s x e = let z : _≡_ {A = ℕ} 0 1 = cc in absurd (omega arith)
-lost-same Lost v s x e = refl
-
-pub not-nothing : (fate : Fate) (v : ℕ) (s : Capture) (x : OutputState) → after-word fate v (with-word v false s) x .packed ≡ nothing
-    → after-word fate v (with-word v true s) x ≡ after-word fate v (with-word v false s) x
-unfolding after-word flagged
-not-nothing Held v s x e = let z : _≡_ {A = ℕ} 0 1 = cc in absurd (omega arith)
-not-nothing Lost v s x e = refl
+-- A sample by codes (W6), from what rule 1, rules 2 to 8 and rule 9 leave and answer.
+pub stepped-coded : (d : Device) (b l v : List ℕ) (w : ℕ) {g : Granted} {c : Captured} {r : Completed} → g ≡ granted-of d b w
+    → c ≡ capture-sample (capture-of d) w → r ≡ complete (c .word) c (g .state)
+    → _≡_ {A = Noted}
+    (record { device = r .device; buffer = g .buffer; landings = note-landing (g .landing) l; words = note-packing (r .packed) v })
+    (noted-step (record { device = d; buffer = b; landings = l; words = v }) w)
+unfolding noted-step step after-grant
+stepped-coded d b l v w granted captured after = rw (after, captured, granted)

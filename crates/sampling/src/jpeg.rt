@@ -1,5 +1,5 @@
 // Samples with JPEG 1 (W4). A word can be padded only where VSYNC blanks and a datum waits; all other samples are run by stretches in which VSYNC keeps its level.
-ghost use mathlib.Core.Bool.{Bool·beq, _&&_};
+ghost use mathlib.Core.Bool.{false, Bool·beq, _&&_};
 ghost use mathlib.Core.Option.{some};
 ghost use mathlib.Core.Path.{_≡_};
 ghost use Prim.Native.Nat.{_+_, _<_, _^_};
@@ -11,15 +11,16 @@ ghost use Rattle.output.specs.Answers as output-answers;
 ghost use Rattle.output.specs.WellFormed.{Laid};
 ghost use Rattle.rules.proofs.WellFormed.{WellFormed};
 ghost use Rattle.laws.specs.Padding as padding;
+ghost use Rattle.full_word.specs.Answers as word-answers;
 ghost use Rattle.sampling.specs.Answers as sample-answers;
 ghost use Rattle.sampling.specs.Levels as levels;
 ghost use Rattle.sampling.specs.Notes as note-rules;
-use crate::full_word::padded_word;
 use crate::granted;
-use crate::notes::note_landing;
-use crate::notes::note_packing;
 use crate::unpadded_steps;
 use capture::syncs::blanks;
+use full_word::notes::note_landing;
+use full_word::notes::note_packing;
+use full_word::padded_word;
 use output::SLOTS;
 use output::count_sample;
 use registers::control;
@@ -36,10 +37,10 @@ fn padded_step(
     words: &mut [u32; 2],
     w: u32,
 ) -> Core
-    requires { ⌜ WellFormed (sample-answers.device d (now slots)) ⌝ }
+    requires { ⌜ WellFormed (word-answers.device d (now slots)) ⌝ }
     requires { ⌜ Laid (output-answers.left (d .output) (now slots)) ⌝ }
     requires { ⌜ d .output .counts .samples + 1 < 2 ^ 32 ⌝ }
-    requires { ⌜ padding.padded-at (d .capture) w ≡ some (d .capture .partial .bits) ⌝ }
+    requires { ⌜ (control-fields.embedded (d .capture .registers .cr) ≡ false) × (padding.padded-at (d .capture) w ≡ some (d .capture .partial .bits)) ⌝ }
     ensures { λ r. ⌜ sample-answers.noted r (now (slots .exit)) (now (buffer .exit)) (now (landings .exit)) (now (words .exit)) ≡ note-rules.noted-step (sample-answers.noted d (now (slots .entry)) (now (buffer .entry)) (now (landings .entry)) (now (words .entry))) w ⌝ }
 {
     let s = capture::apart(d.capture);
@@ -103,9 +104,10 @@ pub fn jpeg_steps(
     words: &mut [u32; 2],
     samples: &[u32],
 ) -> Core
-    requires { ⌜ WellFormed (sample-answers.device d (now slots)) ⌝ }
+    requires { ⌜ WellFormed (word-answers.device d (now slots)) ⌝ }
     requires { ⌜ Laid (output-answers.left (d .output) (now slots)) ⌝ }
     requires { ⌜ d .output .counts .samples + length (now samples) < 2 ^ 32 ⌝ }
+    requires { ⌜ control-fields.embedded (d .capture .registers .cr) ≡ false ⌝ }
     ensures { λ r. ⌜ sample-answers.noted r (now (slots .exit)) (now (buffer .exit)) (now (landings .exit)) (now (words .exit)) ≡ note-rules.noted-steps (sample-answers.noted d (now (slots .entry)) (now (buffer .entry)) (now (landings .entry)) (now (words .entry))) (now (samples .entry)) ⌝ }
 {
     let mut e = d;

@@ -2,7 +2,6 @@
 // value (docs/SPEED.md). The functions are for the crates `device` and `files`, which call them on well-formed devices; each states its result as an equation with its
 // definition.
 ghost use mathlib.Core.Bool.{false};
-ghost use mathlib.Core.Option.{none};
 ghost use mathlib.Core.Path.{_≡_};
 ghost use Prim.Native.Nat.{_+_, _<_, _^_};
 ghost use lib.ListN.{length};
@@ -14,22 +13,23 @@ ghost use Rattle.rules.specs.Capture.{enabled};
 ghost use Rattle.rules.specs.Run as run-rules;
 ghost use Rattle.rules.specs.WellFormed.{malformed};
 ghost use Rattle.rules.proofs.WellFormed.{WellFormed};
-ghost use Rattle.laws.specs.Padding as padding;
 ghost use Rattle.sampling.specs.Unpadded as unpadded;
+ghost use Rattle.full_word.specs.Answers as word-answers;
 ghost use Rattle.sampling.specs.Answers as sample-answers;
 ghost use Rattle.sampling.specs.Notes as note-rules;
 
-mod full_word;
+mod coded;
 mod jpeg;
-mod notes;
 mod single;
 
-use crate::full_word::complete;
+use crate::coded::coded_steps;
 use crate::jpeg::jpeg_steps;
-use crate::notes::note_landing;
-use crate::notes::note_packing;
 pub use crate::single::refusal_of;
 pub use crate::single::sample_core;
+use full_word::Packing;
+use full_word::complete;
+use full_word::notes::note_landing;
+use full_word::notes::note_packing;
 use output::Granted;
 use output::Landing;
 use output::Output;
@@ -43,19 +43,6 @@ use rules::Capture;
 use rules::Core;
 use rules::Device;
 use samples::bus_grant;
-
-// Rule 9's answer. Nothing: no word was completed (`complete`). Completed: one was, with its value, and is held; Lost: one was lost (`after-word`).
-pub enum Packing {
-    Nothing,
-    Completed(u32),
-    Lost,
-}
-
-// The core after rule 9, and what became of the word. The answer stands first for speed (docs/SPEED.md).
-pub struct Completed {
-    pub packing: Packing,
-    pub core: Core,
-}
 
 // One sample over a core and lent slots: the core after it, where a word landed, as a byte of the lent memory, and what became of the sample's own word; or a refusal, which
 // has no core: so the compiler need not keep one (docs/SPEED.md).
@@ -76,7 +63,7 @@ fn granted(s: Capture, o: Output, slots: &mut [u32; SLOTS], buffer: &mut [u8], w
     no_landing(o)
 }
 
-// The nine rules in order for a sample that pads no word, with the answers of rules 1 and 9 noted.
+// The nine rules in order for a sample by the sync pins that pads no word, with the answers of rules 1 and 9 noted.
 fn step(
     d: Core,
     slots: &mut [u32; SLOTS],
@@ -85,10 +72,10 @@ fn step(
     words: &mut [u32; 2],
     w: u32,
 ) -> Core
-    requires { ⌜ WellFormed (sample-answers.device d (now slots)) ⌝ }
+    requires { ⌜ WellFormed (word-answers.device d (now slots)) ⌝ }
     requires { ⌜ Laid (output-answers.left (d .output) (now slots)) ⌝ }
     requires { ⌜ d .output .counts .samples + 1 < 2 ^ 32 ⌝ }
-    requires { ⌜ padding.padded-at (d .capture) w ≡ none ⌝ }
+    requires { ⌜ unpadded.Plain (d .capture) w ⌝ }
     ensures { λ r. ⌜ sample-answers.noted r (now (slots .exit)) (now (buffer .exit)) (now (landings .exit)) (now (words .exit)) ≡ note-rules.noted-step (sample-answers.noted d (now (slots .entry)) (now (buffer .entry)) (now (landings .entry)) (now (words .entry))) w ⌝ }
 {
     let s = capture::apart(d.capture);
@@ -112,10 +99,10 @@ fn unpadded_steps(
     words: &mut [u32; 2],
     samples: &[u32],
 ) -> Core
-    requires { ⌜ WellFormed (sample-answers.device d (now slots)) ⌝ }
+    requires { ⌜ WellFormed (word-answers.device d (now slots)) ⌝ }
     requires { ⌜ Laid (output-answers.left (d .output) (now slots)) ⌝ }
     requires { ⌜ d .output .counts .samples + length (now samples) < 2 ^ 32 ⌝ }
-    requires { ⌜ unpadded.Unpadded (sample-answers.device d (now slots)) (now buffer) (now samples) ⌝ }
+    requires { ⌜ unpadded.Unpadded (word-answers.device d (now slots)) (now buffer) (now samples) ⌝ }
     ensures { λ r. ⌜ sample-answers.noted r (now (slots .exit)) (now (buffer .exit)) (now (landings .exit)) (now (words .exit)) ≡ note-rules.noted-steps (sample-answers.noted d (now (slots .entry)) (now (buffer .entry)) (now (landings .entry)) (now (words .entry))) (now (samples .entry)) ⌝ }
 {
     let mut e = d;
@@ -128,7 +115,7 @@ fn unpadded_steps(
     e
 }
 
-// The samples in order.
+// The samples in order: by codes (W6), with JPEG 1 (W4), or neither.
 fn steps(
     d: Core,
     slots: &mut [u32; SLOTS],
@@ -137,11 +124,14 @@ fn steps(
     words: &mut [u32; 2],
     samples: &[u32],
 ) -> Core
-    requires { ⌜ WellFormed (sample-answers.device d (now slots)) ⌝ }
+    requires { ⌜ WellFormed (word-answers.device d (now slots)) ⌝ }
     requires { ⌜ Laid (output-answers.left (d .output) (now slots)) ⌝ }
     requires { ⌜ d .output .counts .samples + length (now samples) < 2 ^ 32 ⌝ }
     ensures { λ r. ⌜ sample-answers.noted r (now (slots .exit)) (now (buffer .exit)) (now (landings .exit)) (now (words .exit)) ≡ note-rules.noted-steps (sample-answers.noted d (now (slots .entry)) (now (buffer .entry)) (now (landings .entry)) (now (words .entry))) (now (samples .entry)) ⌝ }
 {
+    if control::embedded(d.capture.registers.cr) {
+        return coded_steps(d, slots, buffer, landings, words, samples);
+    }
     if control::jpeg(d.capture.registers.cr) {
         return jpeg_steps(d, slots, buffer, landings, words, samples);
     }

@@ -11,11 +11,12 @@ ghost use Rattle.refusals.specs.Refusals.{_⇒_, first};
 ghost use Rattle.refusals.specs.Table.{outcome};
 ghost use Rattle.samples.specs.Samples.{any-bad};
 ghost use Rattle.rules.specs.Run as run-rules;
+ghost use Rattle.full_word.specs.Answers as word-answers;
 ghost use Rattle.sampling.specs.Answers as sample-answers;
 use crate::SampledCore;
-use crate::notes::noted_landing;
-use crate::notes::noted_packing;
 use crate::steps;
+use full_word::notes::noted_landing;
+use full_word::notes::noted_packing;
 use output::Landing;
 use output::SLOTS;
 use refusals::Outcome;
@@ -70,7 +71,7 @@ pub fn sample_core(
     w: u32,
 ) -> SampledCore
     requires { ⌜ length (now slots) ≡ slot-count ⌝ }
-    ensures { λ r. ⌜ sample-answers.sampled-core core r (now (slots .exit)) (now (memory .exit)) ≡ run-rules.sample (sample-answers.device core (now (slots .entry))) (now (memory .entry)) start w ⌝ }
+    ensures { λ r. ⌜ sample-answers.sampled-core core r (now (slots .exit)) (now (memory .exit)) ≡ run-rules.sample (word-answers.device core (now (slots .entry))) (now (memory .entry)) start w ⌝ }
 {
     let bad = malformed_core(core, slots);
     let one = [w];

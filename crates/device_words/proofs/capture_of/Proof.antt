@@ -1,5 +1,6 @@
 -- `device_words::capture_of` meets its contract. Assumes nothing.
 use borrow.Author.Needs.{needs}
+use lib.Seq.{getD-drop}
 use Rattle.device_words.proofs.capture_of.Statement.{statement}
 use Rattle.device_words.proofs.capture_of.Tie as tie
 
@@ -20,8 +21,18 @@ capture-of-spec =
     (λ c. search needs)
     (λ c. search needs)
     (λ c. search needs)
+    (λ c. search needs)
+    (λ c. search needs)
+    (λ c. search needs)
+    (λ c. search needs)
+    (λ c. search needs)
+    (λ c. search needs)
     (λ c κs. search needs)
     (λ c. search needs)
     (λ c. search needs)
     (λ c. search needs)
-    (λ c. rw (c .frame-of .ensures)))
+    (λ c. search needs)
+    (λ c. search needs)
+    (λ c κs. search needs)
+    (λ c. search needs)
+    (λ c. rw (c .waiting-of .ensures, c .before .frame-of .ensures) (simp getD-drop)))

@@ -1,6 +1,8 @@
 -- `device_words::encodes` meets its contract. Assumes nothing.
 use borrow.Author.Needs.{needs}
-use Rattle.device_words.specs.Image.{encodes}
+use Prim.Native.Nat.{ℕ}
+use lib.Seq.{getD-drop}
+use Rattle.device_words.specs.Image.{behind, encodes}
 use Rattle.device_words.proofs.encodes.Statement.{statement}
 use Rattle.device_words.proofs.encodes.Tie as tie
 
@@ -19,5 +21,9 @@ encodes-spec =
     (λ c. search needs)
     (λ c. search needs)
     (λ c κs. search needs)
-    (λ c. rw (← c .before .before .flags-encode .ensures, c .before .if1 .taken, ← c .frame-encodes .ensures))
+    (λ c. search needs)
+    (λ c. search needs)
+    (λ c. search needs)
+    (λ c. rw (← c .before .before .before .flags-encode .ensures, c .before .before .if1 .taken, ← c .before .frame-encodes .ensures, c .if2 .taken, getD-drop {A = ℕ} behind _ 9 0))
+    (λ c. rw (← c .before .before .before .flags-encode .ensures, c .before .before .if1 .taken, ← c .before .frame-encodes .ensures, c .if2 .left))
     (λ c. rw (← c .before .flags-encode .ensures, c .if1 .left)))

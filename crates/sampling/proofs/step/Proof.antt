@@ -6,7 +6,7 @@ use Rattle.laws.proofs.Before.{sample-before-ok}
 use Rattle.output.specs.Output.{with-counts, count-sample}
 use Rattle.rules.specs.Capture.{Captured}
 use Rattle.rules.specs.Run.{counted}
-use Rattle.sampling.specs.Answers.{device}
+use Rattle.full_word.specs.Answers.{device}
 use Rattle.sampling.proofs.Ready.{more-lines, asks-grant, asks-word, stepped}
 use Rattle.sampling.proofs.step.Statement.{statement}
 use Rattle.sampling.proofs.step.Tie as tie

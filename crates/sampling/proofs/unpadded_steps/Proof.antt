@@ -4,7 +4,8 @@ use borrow.Author.Needs.{needs}
 use lib.ListN.{length, drop}
 use mathlib.Core.Path.{sym}
 use native.Mathlib.Omega.{arith}
-use Rattle.sampling.specs.Answers.{device, noted}
+use Rattle.full_word.specs.Answers.{device}
+use Rattle.sampling.specs.Answers.{noted}
 use Rattle.sampling.specs.Unpadded.{Unpadded}
 use Rattle.sampling.proofs.Going.{Going, starting, going-on, going-end}
 use Rattle.sampling.proofs.Stretches.{first-unpadded, rest-unpadded}

@@ -6,7 +6,7 @@ use Rattle.device.proofs.register_calls.fixed.Tie as tie
 returns-2 : tie.Need-returns-2
 returns-2 c =
     rw (
-      ← c .before .before .before .before .is-window .ensures,
+      ← c .before .before .before .before .is-fixed .ensures,
       c .before .before .before .if1 .left,
       ← c .before .before .is-control .ensures,
       c .before .if2 .taken,

@@ -38,8 +38,27 @@ returns-8 c = rw (c .if8 .taken)
 
 returns-9 : tie.Need-returns-9
 unfolding register-at
-returns-9 c =
-    rw (ne-eqb _ _ (c .before .before .before .before .before .before .before .if1 .left), ne-eqb _ _ (c .before .before .before .before .before .before .if2 .left), ne-eqb _ _ (c .before .before .before .before .before .if3 .left), ne-eqb _ _ (c .before .before .before .before .if4 .left), ne-eqb _ _ (c .before .before .before .if5 .left), ne-eqb _ _ (c .before .before .if6 .left), ne-eqb _ _ (c .before .if7 .left), ne-eqb _ _ (c .if8 .left))
+returns-9 c = rw (c .if9 .taken)
+
+returns-10 : tie.Need-returns-10
+unfolding register-at
+returns-10 c = rw (c .if10 .taken)
+
+returns-11 : tie.Need-returns-11
+unfolding register-at
+returns-11 c =
+    rw (
+      ne-eqb _ _ (c .before .before .before .before .before .before .before .before .before .if1 .left),
+      ne-eqb _ _ (c .before .before .before .before .before .before .before .before .if2 .left),
+      ne-eqb _ _ (c .before .before .before .before .before .before .before .if3 .left),
+      ne-eqb _ _ (c .before .before .before .before .before .before .if4 .left),
+      ne-eqb _ _ (c .before .before .before .before .before .if5 .left),
+      ne-eqb _ _ (c .before .before .before .before .if6 .left),
+      ne-eqb _ _ (c .before .before .before .if7 .left),
+      ne-eqb _ _ (c .before .before .if8 .left),
+      ne-eqb _ _ (c .before .if9 .left),
+      ne-eqb _ _ (c .if10 .left),
+    )
 
 pub at-spec : {M : Type 1} → statement M
-at-spec = tie.close (tie.spec returns returns-2 returns-3 returns-4 returns-5 returns-6 returns-7 returns-8 returns-9)
+at-spec = tie.close (tie.spec returns returns-2 returns-3 returns-4 returns-5 returns-6 returns-7 returns-8 returns-9 returns-10 returns-11)

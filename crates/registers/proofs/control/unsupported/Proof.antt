@@ -11,14 +11,14 @@ returns c = rw (← c .before .unsupported-jpeg .ensures, c .if1 .taken)
 
 returns-2 : tie.Need-returns-2
 unfolding unsupported
-returns-2 c = rw (← c .before .before .before .unsupported-jpeg .ensures, ← c .before .embedded .ensures, c .before .before .if1 .left, c .if2 .taken)
+returns-2 c = rw (← c .before .before .before .unsupported-jpeg .ensures, ← c .before .unsupported-codes .ensures, c .before .before .if1 .left, c .if2 .taken)
 
 returns-3 : tie.Need-returns-3
 unfolding unsupported
 returns-3 c =
     rw (
       ← c .before .before .before .before .before .unsupported-jpeg .ensures,
-      ← c .before .before .before .embedded .ensures,
+      ← c .before .before .before .unsupported-codes .ensures,
       ← c .before .fcrc .ensures,
       c .before .before .before .before .if1 .left,
       c .before .before .if2 .left,
@@ -30,7 +30,7 @@ unfolding unsupported
 returns-4 c =
     rw (
       ← c .before .before .before .before .before .before .before .before .unsupported-jpeg .ensures,
-      ← c .before .before .before .before .before .before .embedded .ensures,
+      ← c .before .before .before .before .before .before .unsupported-codes .ensures,
       ← c .before .before .before .before .fcrc .ensures,
       ← c .before .before .capture .ensures,
       ← c .enable .ensures,
@@ -45,7 +45,7 @@ unfolding unsupported
 returns-5 c =
     rw (
       ← c .before .before .before .before .before .before .before .unsupported-jpeg .ensures,
-      ← c .before .before .before .before .before .embedded .ensures,
+      ← c .before .before .before .before .before .unsupported-codes .ensures,
       ← c .before .before .before .fcrc .ensures,
       ← c .before .capture .ensures,
       c .before .before .before .before .before .before .if1 .left,

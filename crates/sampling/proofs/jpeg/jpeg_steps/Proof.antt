@@ -1,12 +1,13 @@
 -- `sampling::jpeg::jpeg_steps` meets its contract: the loop keeps `Going`, and each turn is one step of the rules or a stretch of them. Assumes nothing.
-use mathlib.Core.Path.{sym, _∙_}
+use mathlib.Core.Path.{sym}
 use Prim.Native.Nat.{_-_}
 use borrow.Author.Needs.{needs}
 use lib.ListN.{length, drop, length-drop}
 use lib.Seq.{length-take-le}
 use native.Mathlib.Omega.{arith}
-use Rattle.sampling.specs.Answers.{device, noted}
-use Rattle.sampling.proofs.Going.{Going, starting, going-on, going-far, going-end}
+use Rattle.full_word.specs.Answers.{device}
+use Rattle.sampling.specs.Answers.{noted}
+use Rattle.sampling.proofs.Going.{Going, starting, going-on, going-far, going-end, plain-still}
 use Rattle.sampling.proofs.Stretches.{stretch-within, stretch-unpadded}
 use Rattle.sampling.proofs.jpeg.jpeg_steps.Statement.{statement}
 use Rattle.sampling.proofs.jpeg.jpeg_steps.Tie as tie
@@ -28,7 +29,7 @@ padded-step-requires : tie.Need-padded-step-requires Inv-loop μ-loop
 padded-step-requires c κs =
     let g = c .before .before .before .before .before .before .before .before .before .loop .inv in
     let pads = rw (c .before .before .before .before .if1 .taken) at (c .before .before .before .before .before .pads .ensures) in
-    (g .well, (g .laid, (omega (arith, g .count, c .before .before .before .before .before .before .before .before .loop-test .taken, c .before .before .before .before .before .before .before .before .before .before .before .before .pre .1 .1), pads)))
+    (g .well, (g .laid, (omega (arith, g .count, c .before .before .before .before .before .before .before .before .loop-test .taken, c .before .before .before .before .before .before .before .before .before .before .before .before .pre .1 .1 .0), (plain-still g (c .before .before .before .before .before .before .before .before .before .before .before .before .pre .1 .1 .1), pads))))
 
 add-i : tie.Need-add-i Inv-loop μ-loop
 add-i c = omega (arith, c .before .before .before .before .before .before .before .before .before .before .before .loop-test .taken, c .before .before .before .before .before .before .before .before .before .before .before .before .before .before .before .good)
@@ -64,7 +65,7 @@ unpadded-steps-requires c κs =
     let none = rw (c .before .before .before .before .before .before .if1 .left) at (c .before .before .before .before .before .before .before .pads .ensures) in
     let within = stretch-within (device (c .before .before .before .before .before .before .before .before .before .before .before .loop .e) (c .before .before .before .before .before .before .before .before .before .before .before .loop .slots)) (c .before .before .before .before .before .before .before .before .before .before .before .loop .buffer) (c .before .before .before .before .before .before .before .before .before .before .before .before .before .before .args .samples .now) (c .before .before .before .before .before .before .before .before .before .before .before .loop .i) (c .before .before .before .before .before .before .before .before .before .before .loop-test .taken) in
     let long = length-take-le (c .before .before .before .before .before .stretch .result - c .before .before .before .before .before .before .before .before .before .before .before .loop .i) (drop (c .before .before .before .before .before .before .before .before .before .before .before .loop .i) (c .before .before .before .before .before .before .before .before .before .before .before .before .before .before .args .samples .now)) (rw (length-drop, c .before .before .before .before .before .stretch .ensures) (omega (arith, within .1))) in
-    (g .well, (g .laid, (omega (arith, long, g .count, c .before .before .before .before .before .stretch .ensures, within .0, within .1, c .before .before .before .before .before .before .before .before .before .before .before .before .before .before .pre .1 .1), rw (c .before .before .before .before .before .stretch .ensures) (stretch-unpadded d (c .before .before .before .before .before .before .before .before .before .before .before .loop .buffer) (c .before .before .before .before .before .before .before .before .before .before .before .before .before .before .args .samples .now) (c .before .before .before .before .before .before .before .before .before .before .before .loop .i) (c .before .before .before .before .before .before .before .before .before .before .loop-test .taken) none))))
+    (g .well, (g .laid, (omega (arith, long, g .count, c .before .before .before .before .before .stretch .ensures, within .0, within .1, c .before .before .before .before .before .before .before .before .before .before .before .before .before .before .pre .1 .1 .0), rw (c .before .before .before .before .before .stretch .ensures) (stretch-unpadded d (c .before .before .before .before .before .before .before .before .before .before .before .loop .buffer) (c .before .before .before .before .before .before .before .before .before .before .before .before .before .before .args .samples .now) (c .before .before .before .before .before .before .before .before .before .before .before .loop .i) (c .before .before .before .before .before .before .before .before .before .before .loop-test .taken) (plain-still g (c .before .before .before .before .before .before .before .before .before .before .before .before .before .before .pre .1 .1 .1), none)))))
 
 loop-less-2 : tie.Need-loop-less-2 Inv-loop μ-loop
 loop-less-2 c =

@@ -7,9 +7,9 @@ use native.Mathlib.Omega.{arith}
 use Rattle.refusals.proofs.Numbered.{never-zero}
 use Rattle.refusals.specs.Table.{outcome}
 use Rattle.rules.specs.Run.{Stepped, sample}
-use Rattle.sampling.specs.Answers.{device}
+use Rattle.full_word.specs.Answers.{device}
 use Rattle.sampling.proofs.AcceptedRuns.{AcceptedRun, accepted-run, refusal-by, tail-part, put-tail, landing-within}
-use Rattle.sampling.proofs.Noted.{one-sample}
+use Rattle.sampling.proofs.Noted.{one-sample, accepted-sample}
 use Rattle.sampling.proofs.Ready.{ready}
 use Rattle.sampling.proofs.single.sample_core.Statement.{statement}
 use Rattle.sampling.proofs.single.sample_core.Tie as tie
@@ -39,18 +39,14 @@ returns c =
     rw (refused ∙ ap outcome (c .before .outcome .given .1), never-zero (c .before .outcome .given .0 .0))
 
 returns-2 : tie.Need-returns-2
-unfolding sample
 returns-2 c =
     let a = c .before .before .before .before .before .before .before .before .before .before .before .before .before .before .before .before .before .before .before .args in
-    let taken = refusal-by (device (a .core) (a .slots .now)) (a .memory .now) (a .start) (a .w ∷ []) (c .before .before .before .before .before .before .before .before .before .before .before .before .before .before .before .before .malformed-core .ensures) (c .before .before .before .before .before .before .before .before .before .before .before .before .before .refusal-of .ensures) in
-    rw (
-      taken ∙ ap outcome (c .before .before .before .before .before .before .before .before .before .before .before .enum-told .given .1),
-      put-tail,
-      c .before .in-memory .ensures,
-      c .before .before .noted-landing .ensures,
-      c .noted-packing .ensures,
-      ← one-sample _ _ _ (rw tail-part at (c .before .before .before .before .before .steps .ensures)),
-    )
+    let d = device (a .core) (a .slots .now) in
+    let taken = refusal-by d (a .memory .now) (a .start) (a .w ∷ []) (c .before .before .before .before .before .before .before .before .before .before .before .before .before .before .before .before .malformed-core .ensures) (c .before .before .before .before .before .before .before .before .before .before .before .before .before .refusal-of .ensures) in
+    rw (put-tail, c .before .in-memory .ensures, c .before .before .noted-landing .ensures, c .noted-packing .ensures)
+    (accepted-sample d (a .memory .now) (a .start) (a .w)
+    (taken ∙ ap outcome (c .before .before .before .before .before .before .before .before .before .before .before .enum-told .given .1))
+    (one-sample _ _ _ (rw tail-part at (c .before .before .before .before .before .steps .ensures))))
 
 pub sample-core-spec : {M : Type 1} → statement M
 unfolding sample
