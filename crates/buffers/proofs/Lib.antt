@@ -1,0 +1,5 @@
+pub mod Frames
+pub mod Tags
+pub mod Sights
+pub mod Told
+pub mod LatestFrame

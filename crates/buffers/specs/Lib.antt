@@ -1,0 +1,4 @@
+pub mod Turns
+pub mod Answers
+pub mod Story
+pub mod Kept
