@@ -12,11 +12,11 @@ say() {
 rt fmt --check >/dev/null 2>&1 || say "rt fmt would change a file: rt fmt --check tells which"
 
 # What is reachable from outside: lib.rt of each crate, and the modules that it declares `pub mod` or passes on by `pub use`. The crates
-# `buffers`, `capture`, `coded_capture`, `full_word`, `output`, `packing`, `sampling` and `well_formed` are for the crates of this repository alone, and are left out.
+# `buffers`, `capture`, `coded_capture`, `device_words`, `full_word`, `output`, `packing`, `sampling`, `trace_format`, `two_buffers` and `well_formed` are for the crates of this repository alone, and are left out.
 checked=0
 for lib in crates/*/src/lib.rt; do
     folder=$(dirname "$lib")
-    case $folder in crates/buffers/src | crates/capture/src | crates/coded_capture/src | crates/full_word/src | crates/output/src | crates/packing/src | crates/sampling/src | crates/well_formed/src) continue ;; esac
+    case $folder in crates/buffers/src | crates/capture/src | crates/coded_capture/src | crates/device_words/src | crates/full_word/src | crates/output/src | crates/packing/src | crates/sampling/src | crates/trace_format/src | crates/two_buffers/src | crates/well_formed/src) continue ;; esac
     files=$lib
     for module in $(sed -n 's/^pub mod \([a-z_]*\);.*/\1/p; s/^pub use \([a-z_]*\)::.*/\1/p' "$lib" | sort -u); do
         [ -f "$folder/$module.rt" ] && files="$files $folder/$module.rt"

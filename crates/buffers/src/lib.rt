@@ -93,7 +93,7 @@ fn with_turn(turn: Buffer, begun: bool, t: Turns) -> Turns
     }
 }
 
-fn with_tags(in_b: u32, opening: u32, mut t: Turns) -> Turns
+pub fn with_tags(in_b: u32, opening: u32, mut t: Turns) -> Turns
     ensures { λ r. ⌜ r ≡ turn-rules.with-tags in_b opening t ⌝ }
 {
     t.in_b = in_b;
@@ -102,7 +102,7 @@ fn with_tags(in_b: u32, opening: u32, mut t: Turns) -> Turns
 }
 
 // Rule 9 is reached: a frame's first word switches to the other buffer.
-fn first_word(t: Turns) -> Turns
+pub fn first_word(t: Turns) -> Turns
     ensures { λ r. ⌜ r ≡ turn-rules.first-word t ⌝ }
 {
     let turn = t.turn;
@@ -136,7 +136,7 @@ pub fn oldest_buffer(t: Turns) -> Buffer
     Buffer::A
 }
 
-fn oldest_opens(t: Turns) -> bool
+pub fn oldest_opens(t: Turns) -> bool
     ensures { λ r. ⌜ r ≡ turn-rules.oldest-opens t ⌝ }
 {
     t.opening % 2 == 1
@@ -183,7 +183,7 @@ fn known(u: Buffer, t: Turns) -> Content
     }
 }
 
-fn with_content(u: Buffer, c: Content, t: Turns) -> Turns
+pub fn with_content(u: Buffer, c: Content, t: Turns) -> Turns
     ensures { λ r. ⌜ r ≡ turn-rules.with-content u c t ⌝ }
 {
     let turn = t.turn;

@@ -10,9 +10,9 @@ use Rattle.sampling.specs.Answers.{sampled-core}
 use Rattle.sampling.specs.declared.SampledCore.{SampledCore}
 use Rattle.sampling.specs.declared.SampledCore.the-variants as core-cases
 use Rattle.rules.specs.declared.Core.{Core}
-use Rattle.trace.specs.Answers as trace-answers
-use Rattle.trace.specs.Writing.{WriteResult}
-use Rattle.trace.specs.declared.Written.{Written as Encoding}
+use Rattle.trace_writer.specs.Answers as writer-answers
+use Rattle.trace_writer.specs.Writing.{WriteResult}
+use Rattle.trace_writer.specs.declared.Written.{Written as Encoding}
 use Rattle.dcmi.specs.Calls.{Called, called, changed, run-called, ran, SampleStored, sample-called, sample-stored, sample-left, Got, gave, got, encoded}
 
 pub run-stored : {number : ℕ} {image′ : List ℕ} {r : RunResult} (image memory′ : List ℕ) (w : Changed) → called number image′ ≡ changed image (device-answers.changed w) → device-answers.ran w memory′ ≡ r
@@ -32,6 +32,6 @@ sampled image old memory′ slots core a e f =
     ap (λ (m : List ℕ). sample-left (sample-stored image old (s .answer) (s .device)) m) (sym (core-memory core a slots memory′)) ∙
     ap (λ (x : SampleResult). sample-left (sample-stored image old (x .answer) (x .device)) (x .memory)) f
 
-pub file-encoded : {number length′ : ℕ} {r : WriteResult} (old : ℕ) (out′ : List ℕ) (w : Encoding) → gave number length′ ≡ got old (trace-answers.written-length w) → trace-answers.written w out′ ≡ r
+pub file-encoded : {number length′ : ℕ} {r : WriteResult} (old : ℕ) (out′ : List ℕ) (w : Encoding) → gave number length′ ≡ got old (writer-answers.written-length w) → writer-answers.written w out′ ≡ r
     → encoded (gave number length′) out′ ≡ encoded (got old (r .answer)) (r .buffer)
 file-encoded old out′ w e f = ap (λ (x : Got). encoded x out′) e ∙ ap (λ (x : WriteResult). encoded (got old (x .answer)) (x .buffer)) f

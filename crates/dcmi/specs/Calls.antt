@@ -11,9 +11,9 @@ use Rattle.rules.specs.State.{fresh}
 use Rattle.rules.specs.Answers.{Changed}
 use Rattle.rules.specs.RegisterCalls as register-rules
 use Rattle.rules.specs.Run as run-rules
-use Rattle.trace.specs.declared.Write.{Write}
-use Rattle.trace.specs.Reading as reading
-use Rattle.trace.specs.Writing as writing
+use Rattle.trace_format.specs.declared.Write.{Write}
+use Rattle.trace_format.specs.Reading as reading
+use Rattle.trace_writer.specs.Writing as writing
 use Rattle.files.specs.File as file-rules
 use Rattle.device_words.specs.Image.{flag, image-of, encodes, device-of}
 

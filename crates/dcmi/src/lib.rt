@@ -9,8 +9,9 @@ ghost use Rattle.device.specs.Answers as device-answers;
 ghost use Rattle.output.specs.Answers as output-answers;
 ghost use Rattle.full_word.specs.Answers as word-answers;
 ghost use Rattle.sampling.specs.Answers as sample-answers;
-ghost use Rattle.trace.specs.Answers as trace-answers;
-ghost use Rattle.trace.specs.Writing as writing;
+ghost use Rattle.trace_reader.specs.Answers as trace-answers;
+ghost use Rattle.trace_writer.specs.Answers as writer-answers;
+ghost use Rattle.trace_writer.specs.Writing as writing;
 ghost use Rattle.dcmi.specs.Calls as call-rules;
 use device::Changed;
 use device::InterruptLine;
@@ -24,8 +25,8 @@ use refusals::Outcome;
 use rules::Device;
 use sampling::SampledCore;
 use sampling::sample_core;
-use trace::Item;
-use trace::Read;
+use trace_reader::Item;
+use trace_reader::Read;
 
 // The image after a call that changes the device.
 fn store(image: &mut [u32; 58], after: Changed) -> u32
@@ -277,15 +278,15 @@ pub extern "C" fn dcmi_sample_slices(
     1
 }
 
-fn put_written(outcome: trace::Written, length: &mut usize) -> u32
-    ensures { λ r. ⌜ call-rules.gave r (now (length .exit)) ≡ call-rules.got (now (length .entry)) (trace-answers.written-length outcome) ⌝ }
+fn put_written(outcome: trace_writer::Written, length: &mut usize) -> u32
+    ensures { λ r. ⌜ call-rules.gave r (now (length .exit)) ≡ call-rules.got (now (length .entry)) (writer-answers.written-length outcome) ⌝ }
 {
     match outcome {
-        trace::Written::Length(n) => {
+        trace_writer::Written::Length(n) => {
             *length = n;
             return 0;
         }
-        trace::Written::Refused(refusal) => {
+        trace_writer::Written::Refused(refusal) => {
             return refusal.number();
         }
     }
@@ -303,7 +304,7 @@ pub extern "C" fn dcmi_trace_write_slices(
 ) -> u32
     ensures { λ r. ⌜ call-rules.encoded (call-rules.gave r (now (length .exit))) (now (out .exit)) ≡ call-rules.trace-write (writing.given count (now (offsets .entry)) (now (values .entry))) (now (samples .entry)) (now (out .entry)) (now (length .entry)) ⌝ }
 {
-    let outcome = trace::encode(count, offsets, values, samples, out);
+    let outcome = trace_writer::encode(count, offsets, values, samples, out);
     put_written(outcome, length)
 }
 
@@ -339,6 +340,6 @@ fn put_read(read: Read, item: &mut [u64; 4]) -> u32
 pub extern "C" fn dcmi_trace_item_slices(file: &[u8], place: usize, item: &mut [u64; 4]) -> u32
     ensures { λ r. ⌜ call-rules.item-called r (now (item .exit)) ≡ call-rules.trace-item (now (file .entry)) place (now (item .entry)) ⌝ }
 {
-    let read = trace::read_once(file, place);
+    let read = trace_reader::read_once(file, place);
     put_read(read, item)
 }

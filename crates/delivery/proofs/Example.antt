@@ -1,5 +1,6 @@
 -- The premises can be met. At depth 4, at 12 bits and at 8: a scenario with runs, single samples and refused calls; five words are noted, and the four samples
 -- that grant stand in every 16 (32) of them. With JPEG (W4) words are padded, some of them four samples after the one before. With codes in the data (W6) released bytes bring two words four samples apart. At depth 1 each word waits as long as the deadline lets it. At depth 32 up to 25 words are held (W9).
+-- With two buffers (W2) frames go to A, B and A. Assumes nothing.
 use mathlib.Core.Bool.{true, false}
 use mathlib.Core.List.{List, [], _∷_, _++_, map}
 use mathlib.Core.Path.{_≡_, refl, ap, _∙_}
@@ -7,10 +8,15 @@ use Prim.Native.Nat.{ℕ, _+_, _*_}
 use native.Mathlib.Omega.{arith}
 use lib.ListN.{replicate}
 use Rattle.output.specs.Output.{usual-depth}
-use Rattle.delivery.specs.Calls.{SetUpCall, a-write, a-run, a-sample}
-use Rattle.delivery.specs.Delivery.{Scenario, set-up, Premises, Promised, All, all-moments}
+use Rattle.buffers.specs.declared.Buffer.{Buffer}
+use Rattle.buffers.specs.declared.Buffer.the-variants.{A, B}
+use Rattle.board_rules.specs.TwoBuffers.{Pair}
+use Rattle.board_rules.specs.BoardRuns.{memories}
+use Rattle.delivery.specs.Calls.{SetUpCall, a-write, one-buffer, two-buffers, a-run, a-sample, a-run-two, a-sample-two}
+use Rattle.delivery.specs.Noted.{Turn}
+use Rattle.delivery.specs.Delivery.{Scenario, set-up, noted-by, Premises, Promised, All, all-moments}
 use Rattle.delivery.proofs.Theorem.{delivery}
-use Rattle.delivery.proofs.Outcome.{final, Outcome, outcome, premises, twelve-bits, eight-bits, compressed, coded, clocked, code, granting, pixels, every, periods, one-run}
+use Rattle.delivery.proofs.Outcome.{final, Outcome, outcome, premises, twelve-bits, eight-bits, compressed, coded, clocked, code, granting, pixels, every, periods, alone, one-run}
 
 -- A blank edge and n samples of pixels in a run, 6 + m in another, four of which grant, and four alone. A bit above 17 refuses a run and a single sample.
 abbrev pub example : SetUpCall → ℕ → ℕ → Scenario
@@ -25,8 +31,7 @@ example cr n m =
           map a-sample (pixels (n + 6 + m) (replicate 2 false)) ++
           a-sample 0x40000 ∷
           map a-sample (pixels (n + 8 + m) (replicate 2 false));
-      start = 3;
-      memory = replicate 24 0xEE;
+      lent = alone 3 (replicate 24 0xEE);
     }
 
 -- The outcome with s samples from word to word: two moments before n samples in eight calls, three words landed, two held.
@@ -45,33 +50,42 @@ three-landed s n held =
       overrun = false;
     }
 
--- A scenario that comes to an outcome, with this memory at the end.
-pub record Delivers (o : Outcome) (memory : List ℕ) (x : Scenario) : Type 0 where
+-- A scenario that comes to an outcome, with these memories at the end.
+pub record Delivers (o : Outcome) (at-end : Pair) (x : Scenario) : Type 0 where
   pub comes-to : outcome (x .depth * o .distance) (x .depth) x ≡ o
-  pub in-memory : final (x .start) (set-up x) (x .calls) .memory ≡ memory
+  pub in-memory : memories (final (set-up x) (x .calls) .lent) ≡ at-end
   -- So the theorem speaks of the scenario, at each of its moments.
   pub met : Premises x
   pub promised : All (Promised x) (all-moments x)
 
-delivers : {o : Outcome} {memory : List ℕ} (x : Scenario) → o .met ≡ true → outcome (x .depth * o .distance) (x .depth) x ≡ o
-    → final (x .start) (set-up x) (x .calls) .memory ≡ memory → Delivers o memory x
-delivers {o} x t e m =
+delivers : (o : Outcome) {at-end : Pair} (x : Scenario) → o .met ≡ true → outcome (x .depth * o .distance) (x .depth) x ≡ o
+    → memories (final (set-up x) (x .calls) .lent) ≡ at-end → Delivers o at-end x
+delivers o x t e m =
     let met = premises (o .distance) x (ap (λ (r : Outcome). r .met) e ∙ t) (ap (λ (r : Outcome). r .distance) e) in
     record { comes-to = e; in-memory = m; met = met; promised = delivery x met }
 
--- The bytes of the landed words, and those around them.
-abbrev around : List ℕ → List ℕ
-around landed = replicate 3 0xEE ++ landed ++ replicate 9 0xEE
+-- A memory alone; the bytes of the landed words, and those around them.
+abbrev only : List ℕ → Pair
+only memory = record { a = memory; b = [] }
+
+abbrev around : List ℕ → Pair
+around landed = only (replicate 3 0xEE ++ landed ++ replicate 9 0xEE)
+
+abbrev twelve : Outcome
+twelve = three-landed 4 22 (0x80007 ∷ 0xA0009 ∷ [])
 
 pub at-12-bits :
-    Delivers (three-landed 4 22 (0x80007 ∷ 0xA0009 ∷ [])) (around (1 ∷ 0 ∷ 2 ∷ 0 ∷ 3 ∷ 0 ∷ 4 ∷ 0 ∷ 5 ∷ 0 ∷ 6 ∷ 0 ∷ [])) (example twelve-bits 8 2)
+    Delivers twelve (around (1 ∷ 0 ∷ 2 ∷ 0 ∷ 3 ∷ 0 ∷ 4 ∷ 0 ∷ 5 ∷ 0 ∷ 6 ∷ 0 ∷ [])) (example twelve-bits 8 2)
 unfolding outcome
-at-12-bits = delivers (example twelve-bits 8 2) refl refl refl
+at-12-bits = delivers twelve (example twelve-bits 8 2) refl refl refl
+
+abbrev eight : Outcome
+eight = three-landed 8 42 (0x100F0E0D ∷ 0x14131211 ∷ [])
 
 pub at-8-bits :
-    Delivers (three-landed 8 42 (0x100F0E0D ∷ 0x14131211 ∷ [])) (around (1 ∷ 2 ∷ 3 ∷ 4 ∷ 5 ∷ 6 ∷ 7 ∷ 8 ∷ 9 ∷ 10 ∷ 11 ∷ 12 ∷ [])) (example eight-bits 20 10)
+    Delivers eight (around (1 ∷ 2 ∷ 3 ∷ 4 ∷ 5 ∷ 6 ∷ 7 ∷ 8 ∷ 9 ∷ 10 ∷ 11 ∷ 12 ∷ [])) (example eight-bits 20 10)
 unfolding outcome
-at-8-bits = delivers (example eight-bits 20 10) refl refl refl
+at-8-bits = delivers eight (example eight-bits 20 10) refl refl refl
 
 -- JPEG (W4): frames of five, one and four bytes. The first leaves one over, so that its last word is padded, four samples after the one before; so does the second; the third
 -- leaves none, and pads none. Two words land in time, a padded one among them.
@@ -89,13 +103,12 @@ pictures =
           map a-sample (clocked (0xC000 ∷ [])) ++
           a-run (clocked (7 ∷ 8 ∷ 9 ∷ 10 ∷ 0xC000 ∷ [])) ∷
           [];
-      start = 3;
-      memory = replicate 24 0xEE;
+      lent = alone 3 (replicate 24 0xEE);
     }
 
-pub with-jpeg :
-    Delivers
-    (record {
+abbrev padded : Outcome
+padded =
+    record {
       met = true;
       distance = 4;
       moments = 2 + 28 + 9;
@@ -106,11 +119,14 @@ pub with-jpeg :
       discarded = 0;
       held = 0x6 ∷ 0x0A090807 ∷ [];
       overrun = false;
-    })
-    (replicate 3 0xEE ++ (1 ∷ 2 ∷ 3 ∷ 4 ∷ 5 ∷ 0 ∷ 0 ∷ 0 ∷ []) ++ replicate 13 0xEE)
+    }
+
+pub with-jpeg :
+    Delivers padded
+    (only (replicate 3 0xEE ++ (1 ∷ 2 ∷ 3 ∷ 4 ∷ 5 ∷ 0 ∷ 0 ∷ 0 ∷ []) ++ replicate 13 0xEE))
     pictures
 unfolding outcome
-with-jpeg = delivers pictures refl refl refl
+with-jpeg = delivers padded pictures refl refl refl
 
 -- Codes in the data (W6): after 1, 2, 3 the bytes FF 00 begin like a code, and the 4 releases all three. FF fills the first word, and 00, 4 begin the second, which 5 and 6 fill four
 -- samples later. Both land in time, and the third word is held.
@@ -129,13 +145,12 @@ coded-lines =
           a-run (granting (clocked (7 ∷ 8 ∷ []))) ∷
           a-run (clocked (9 ∷ 10 ∷ code 0xD4)) ∷
           [];
-      start = 3;
-      memory = replicate 24 0xEE;
+      lent = alone 3 (replicate 24 0xEE);
     }
 
-pub with-codes :
-    Delivers
-    (record {
+abbrev released : Outcome
+released =
+    record {
       met = true;
       distance = 4;
       moments = 4 + 40 + 13;
@@ -146,11 +161,14 @@ pub with-codes :
       discarded = 0;
       held = 0x0A090807 ∷ [];
       overrun = false;
-    })
-    (replicate 3 0xEE ++ (1 ∷ 2 ∷ 3 ∷ 0xFF ∷ 0 ∷ 4 ∷ 5 ∷ 6 ∷ []) ++ replicate 13 0xEE)
+    }
+
+pub with-codes :
+    Delivers released
+    (only (replicate 3 0xEE ++ (1 ∷ 2 ∷ 3 ∷ 0xFF ∷ 0 ∷ 4 ∷ 5 ∷ 6 ∷ []) ++ replicate 13 0xEE))
     coded-lines
 unfolding outcome
-with-codes = delivers coded-lines refl refl refl
+with-codes = delivers released coded-lines refl refl refl
 
 -- The outcome of one run of n samples: k words are noted, s samples apart, and those that have not landed are held.
 abbrev rest-held : ℕ → ℕ → ℕ → ℕ → List ℕ → Outcome
@@ -169,17 +187,23 @@ rest-held s n k landed held =
     }
 
 -- Depth 1: from the first word's sample on, a grant at every s-th. It lands the word before, whose s samples are over: one sample less, and it is still held.
+abbrev one-held : Outcome
+one-held = rest-held 4 17 3 2 (0x60005 ∷ [])
+
 pub depth-1 :
-    Delivers (rest-held 4 17 3 2 (0x60005 ∷ [])) (1 ∷ 0 ∷ 2 ∷ 0 ∷ 3 ∷ 0 ∷ 4 ∷ 0 ∷ replicate 7 0xEE)
+    Delivers one-held (only (1 ∷ 0 ∷ 2 ∷ 0 ∷ 3 ∷ 0 ∷ 4 ∷ 0 ∷ replicate 7 0xEE))
     (one-run 1 twelve-bits (periods 1 1 2 ++ periods 3 1 3))
 unfolding outcome
-depth-1 = delivers (one-run 1 twelve-bits (periods 1 1 2 ++ periods 3 1 3)) refl refl refl
+depth-1 = delivers one-held (one-run 1 twelve-bits (periods 1 1 2 ++ periods 3 1 3)) refl refl refl
+
+abbrev one-held-8 : Outcome
+one-held-8 = rest-held 8 33 3 2 (0x0C0B0A09 ∷ [])
 
 pub depth-1-8 :
-    Delivers (rest-held 8 33 3 2 (0x0C0B0A09 ∷ [])) (1 ∷ 2 ∷ 3 ∷ 4 ∷ 5 ∷ 6 ∷ 7 ∷ 8 ∷ replicate 23 0xEE)
+    Delivers one-held-8 (only (1 ∷ 2 ∷ 3 ∷ 4 ∷ 5 ∷ 6 ∷ 7 ∷ 8 ∷ replicate 23 0xEE))
     (one-run 1 eight-bits (periods 1 1 6 ++ periods 3 1 7))
 unfolding outcome
-depth-1-8 = delivers (one-run 1 eight-bits (periods 1 1 6 ++ periods 3 1 7)) refl refl refl
+depth-1-8 = delivers one-held-8 (one-run 1 eight-bits (periods 1 1 6 ++ periods 3 1 7)) refl refl refl
 
 -- Depth 32: the 32 samples that grant stand in every 128. Of 32 words 25 are held at the end.
 abbrev grants-first : Scenario
@@ -191,9 +215,62 @@ last-25 = 0x10000F ∷ 0x120011 ∷ 0x140013 ∷ 0x160015 ∷ 0x180017 ∷ 0x1A0
 abbrev first-7 : List ℕ
 first-7 = 1 ∷ 0 ∷ 2 ∷ 0 ∷ 3 ∷ 0 ∷ 4 ∷ 0 ∷ 5 ∷ 0 ∷ 6 ∷ 0 ∷ 7 ∷ 0 ∷ 8 ∷ 0 ∷ 9 ∷ 0 ∷ 10 ∷ 0 ∷ 11 ∷ 0 ∷ 12 ∷ 0 ∷ 13 ∷ 0 ∷ 14 ∷ 0 ∷ []
 
-pub depth-32 : Delivers (rest-held 4 130 32 7 last-25) (first-7 ++ replicate 100 0xEE) grants-first
+abbrev many-held : Outcome
+many-held = rest-held 4 130 32 7 last-25
+
+pub depth-32 : Delivers many-held (only (first-7 ++ replicate 100 0xEE)) grants-first
 unfolding outcome
-depth-32 = delivers grants-first refl refl refl
+depth-32 = delivers many-held grants-first refl refl refl
+
+-- Two buffers (W2), set before ENABLE rises; a mode change after it is refused. At 12 bits a frame of two words goes to A and one of one word to B. A frame of one datum completes no word, and so does not
+-- switch: the next goes to A, and its first word lands on that of the first frame; its second is still held. Runs and single samples over one memory are refused, and so is a bit above 17.
+abbrev pub in-turn : Scenario
+in-turn =
+    record {
+      depth = usual-depth;
+      set-up-calls = two-buffers ∷ a-write 0 0x48E1 (omega arith) ∷ one-buffer ∷ [];
+      calls =
+          a-run-two (clocked (0xC000 ∷ 1 ∷ 2 ∷ 3 ∷ 4 ∷ 0xC000 ∷ [])) ∷
+          a-run (clocked (5 ∷ [])) ∷
+          a-run-two (granting (clocked (5 ∷ 6 ∷ []))) ∷
+          a-sample 0x0C000 ∷
+          map a-sample-two (clocked (0xC000 ∷ [])) ++
+          a-run-two (clocked (7 ∷ 0xC000 ∷ 8 ∷ 9 ∷ [])) ∷
+          a-run-two (granting (clocked (10 ∷ [])) ++ 0x40000 ∷ []) ∷
+          a-run-two (granting (clocked (10 ∷ []))) ∷
+          map a-sample-two (clocked (11 ∷ []));
+      lent = record { a = record { memory = replicate 13 0xEE; start = 3 }; b = record { memory = replicate 7 0xDD; start = 1 } };
+    }
+
+abbrev two-landed : Outcome
+two-landed =
+    record {
+      met = true;
+      distance = 4;
+      moments = 4 + 30 + 11;
+      samples = 30;
+      noted = 6 ∷ 10 ∷ 16 ∷ 26 ∷ 30 ∷ [];
+      completed = 5;
+      landed = 4;
+      discarded = 0;
+      held = 0xB000A ∷ [];
+      overrun = false;
+    }
+
+pub with-two-buffers :
+    Delivers two-landed
+    (record { a = replicate 3 0xEE ++ (8 ∷ 0 ∷ 9 ∷ 0 ∷ 3 ∷ 0 ∷ 4 ∷ 0 ∷ []) ++ replicate 2 0xEE; b = 0xDD ∷ (5 ∷ 0 ∷ 6 ∷ 0 ∷ []) ++ replicate 2 0xDD })
+    in-turn
+unfolding outcome
+with-two-buffers = delivers two-landed in-turn refl refl refl
+
+-- The buffers and numbers of its words.
+abbrev turn : Buffer → ℕ → Turn
+turn u n = record { buffer = u; number = n }
+
+pub turns : map (λ n. n .turn) (noted-by in-turn 30) ≡ turn A 0 ∷ turn A 1 ∷ turn B 0 ∷ turn A 0 ∷ turn A 1 ∷ []
+unfolding outcome
+turns = refl
 
 -- Without runs and samples there are moments too: CR at reset, and after each of three writes. The second, of CWSTRT with ENABLE 1, is refused.
 abbrev pub set-up-alone : Scenario
@@ -202,10 +279,9 @@ set-up-alone =
       depth = usual-depth;
       set-up-calls = twelve-bits ∷ a-write 0x20 1 (omega arith) ∷ a-write 0 0x08E2 (omega arith) ∷ [];
       calls = [];
-      start = 0;
-      memory = [];
+      lent = alone 0 [];
     }
 
-pub moments-alone : map (λ m. m .device .core .capture .registers .cr) (all-moments set-up-alone) ≡ 0 ∷ 0x48E3 ∷ 0x48E3 ∷ 0x08E2 ∷ []
+pub moments-alone : map (λ m. m .board .device .core .capture .registers .cr) (all-moments set-up-alone) ≡ 0 ∷ 0x48E3 ∷ 0x48E3 ∷ 0x08E2 ∷ []
 unfolding outcome
 moments-alone = refl

@@ -1,5 +1,5 @@
--- Samples as the queue sees them: whether each grants the bus, and the word that the capture rules note at it, if any. Their words and grants are the claim's.
-use mathlib.Core.Bool.{false, cond}
+-- Samples as the queue sees them: whether each grants the bus, and the word that the capture rules note at it, if any. Their words and grants are the claim's. Assumes nothing.
+use mathlib.Core.Bool.{Bool, false, cond}
 use mathlib.Core.List.{List, [], _∷_, _++_}
 use mathlib.Core.Option.{Option, none, some}
 use mathlib.Core.Path.{_≡_, refl, ap, _∙_}
@@ -15,7 +15,7 @@ use Rattle.laws.proofs.Errors.{no-error-by-pins}
 use Rattle.rules.specs.declared.Capture.{Capture}
 use Rattle.rules.specs.Sample.{capture-sample, next-capture}
 use Rattle.samples.specs.Samples.{bus-grant}
-use Rattle.delivery.specs.Noted.{note, noted, words, any-error}
+use Rattle.delivery.specs.Noted.{Noted, Turn, word-turn, next-turn, note, noted, words, any-error}
 use Rattle.delivery.specs.Delivery.{grants}
 
 -- The sample w in the capture state s; some samples; and the capture state after them.
@@ -57,22 +57,30 @@ window-grants s n zero xs = rw (← inputs-take, inputs-grants)
 window-grants s n (suc k) [] = rw (← inputs-take s n [], inputs-grants)
 window-grants s n (suc k) (w ∷ ws) = window-grants (next-capture s w) n k ws
 
--- The words that arrive are the noted ones, whatever number the samples begin with.
-pub inputs-words : (n : ℕ) (s : Capture) (xs : List ℕ) → queue.words (inputs s xs) ≡ words (noted n s xs)
+pub captures-append : (s : Capture) (xs ys : List ℕ) → captures s (xs ++ ys) ≡ captures (captures s xs) ys
+unfolding captures
+captures-append s [] ys = refl
+captures-append s (w ∷ ws) ys = captures-append (next-capture s w) ws ys
+
+-- The words that arrive are the noted ones, whatever number the samples begin with, and whichever buffers the words go to (W2).
+pub inputs-words : (n : ℕ) (two : Bool) (t : Turn) (s : Capture) (xs : List ℕ) → queue.words (inputs s xs) ≡ words (noted n two t s xs)
 unfolding inputs noted note queue.words
-inputs-words n s [] = refl
-inputs-words n s (w ∷ ws) = go (capture-sample s w .word) (inputs-words (n + 1) (next-capture s w) ws)
+inputs-words n two t s [] = refl
+inputs-words n two t s (w ∷ ws) = go (capture-sample s w .word) (inputs-words (n + 1) two (next-turn two t s (capture-sample s w)) (next-capture s w) ws)
   where
     next : Capture
     next = next-capture s w
 
-    go : (o : Option ℕ) → queue.words (inputs next ws) ≡ words (noted (n + 1) next ws)
-        → queue.words (record { grant = bus-grant w; word = o } ∷ inputs next ws) ≡ words (note (n + 1) o ++ noted (n + 1) next ws)
+    rest : List Noted
+    rest = noted (n + 1) two (next-turn two t s (capture-sample s w)) next ws
+
+    go : (o : Option ℕ) → queue.words (inputs next ws) ≡ words rest
+        → queue.words (record { grant = bus-grant w; word = o } ∷ inputs next ws) ≡ words (note (n + 1) (word-turn two t) o ++ rest)
     go none e = e
     go (some v) e = ap (λ (r : List ℕ). v ∷ r) e
 
-pub count-words : (s : Capture) (xs : List ℕ) → length (queue.words (inputs s xs)) ≡ length (noted 0 s xs)
-count-words s xs = rw (inputs-words 0) (length-map (noted 0 s xs) (λ n. n .word))
+pub count-words : (two : Bool) (t : Turn) (s : Capture) (xs : List ℕ) → length (queue.words (inputs s xs)) ≡ length (noted 0 two t s xs)
+count-words two t s xs = rw (inputs-words 0 two t) (length-map (noted 0 two t s xs) (λ n. n .word))
 
 -- ERR (W6): where it rises at none of some samples, it rises at none of the first of them; with ESS 0 it rises at none.
 pub first-calm : (s : Capture) (xs ys : List ℕ) → any-error s (xs ++ ys) ≡ false → any-error s xs ≡ false

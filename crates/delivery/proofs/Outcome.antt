@@ -1,23 +1,29 @@
 -- What a closed scenario comes to, by computation over the rules (`outcome`), and the premises from their test; unfolding `outcome` unfolds every rule.
--- At the end what closed scenarios are made of.
+-- At the end what closed scenarios are made of. Assumes nothing.
 use mathlib.Core.Bool.{Bool, true, false, cond, not, _&&_, _||_}
 use mathlib.Core.List.{List, [], _∷_, _++_, map}
 use mathlib.Core.Path.{_≡_}
-use Prim.Native.Nat.{ℕ, zero, suc, _+_, _-_, _*_, _/_, _%_, _≤_}
+use Prim.Native.Nat.{ℕ, zero, suc, _+_, _*_, _/_, _%_, _≤_}
 use native.Mathlib.Omega.{arith}
 use lib.Dec.{eqb, ltb, leb}
 use lib.ListN.{length, take, drop, replicate, length-drop}
 use borrow.Author.Tests.{leb-true, le-ltb, not-true}
 use Rattle.bits.specs.Bits.{bit}
+use Rattle.bits.proofs.Booleans.{and-true}
 use Rattle.output.specs.Output.{contents}
 use Rattle.output.specs.WellFormed.{bad-depth}
+use Rattle.buffers.specs.Turns as turn-rules
+use Rattle.buffers.specs.Kept.{landed-at, keep, keeps}
 use Rattle.rules.specs.State.{output-of}
-use Rattle.rules.specs.Run.{in-memory, sample}
 use Rattle.rules.proofs.EveryRule.{every-rule}
-use Rattle.bits.proofs.Booleans.{and-true}
-use Rattle.delivery.specs.Calls.{SetUpCall, a-write, after-set-up, after-set-ups, devices, Call, a-run, System, accepted, after-call, samples, inside, moments}
-use Rattle.delivery.specs.Noted.{write-found, noted-write, noted-set-up, noted-set-ups, note, noted, any-error, spacing}
-use Rattle.delivery.specs.Delivery.{grants, Scenario, set-up, trace, configured, distance, noted-by, Premises, all-moments}
+use Rattle.board_rules.specs.State as board-state
+use Rattle.board_rules.specs.TwoBuffers.{frame-event, sample-events, two-step, two-steps}
+use Rattle.board_rules.specs.BoardCalls as board-calls
+use Rattle.board_rules.specs.BoardRuns as board-runs
+use Rattle.board_rules.specs.BoardRuns.{Both, lent, frame-buffer, one-refusal, two-refusal, turns-of}
+use Rattle.delivery.specs.Calls.{SetUpCall, a-write, after-set-up, after-set-ups, boards, Call, a-run, System, refusal, accepted, after-call, samples, stepped-in, inside, moments}
+use Rattle.delivery.specs.Noted.{write-found, noted-write, with-mode, noted-set-up, noted-set-ups, word-turn, turn-after, next-turn, Noted, note, noted, any-error, spacing}
+use Rattle.delivery.specs.Delivery.{grants, Scenario, set-up, trace, configured, distance, noted-by, Room, Premises, All, all-moments}
 
 -- A test that each tail of a list passes.
 abbrev pub tails : (List ℕ → Bool) → List ℕ → Bool
@@ -30,23 +36,44 @@ each-tail f [] e (suc k) = e
 each-tail f (x ∷ xs) e zero = and-true (f (x ∷ xs)) (tails f xs) e .0
 each-tail f (x ∷ xs) e (suc k) = each-tail f xs (and-true (f (x ∷ xs)) (tails f xs) e .1) k
 
+-- A test that each element passes.
+abbrev pub each : {A : Type 0} → (A → Bool) → List A → Bool
+each f [] = true
+each f (x ∷ xs) = f x && each f xs
+
+each-all : {A : Type 0} (P : A → Type 0) (f : A → Bool) → ((a : A) → f a ≡ true → P a) → (xs : List A) → each f xs ≡ true → All P xs
+each-all P f is [] e = tt
+each-all P f is (x ∷ xs) e = let (here, rest) = and-true (f x) (each f xs) e in (is x here, each-all P f is xs rest)
+
 -- The premises with windows of w samples and g grants in each; two of their tests.
 pub record Windows (w g : ℕ) (x : Scenario) : Type 0 where
   pub made : bad-depth (x .depth) ≡ false
-  pub room : 4 * length (noted-by x (length (trace x))) ≤ length (x .memory) - x .start
+  pub room : All (Room x) (noted-by x (length (trace x)))
   pub granted : (k : ℕ) → k + w ≤ length (trace x) → g ≤ grants (take w (drop k (trace x)))
-  pub no-error : any-error (configured x) (trace x) ≡ false
+  pub no-error : any-error (configured x .capture) (trace x) ≡ false
+
+abbrev fits : Scenario → Noted → Bool
+fits x n = leb (4 * n .turn .number + 4) (length (frame-buffer (lent (n .turn .buffer) (x .lent))))
 
 abbrev pub has-room : Scenario → Bool
-has-room x = leb (4 * length (noted-by x (length (trace x)))) (length (x .memory) - x .start)
+has-room x = each (fits x) (noted-by x (length (trace x)))
 
 abbrev pub has-grants : ℕ → ℕ → List ℕ → Bool
 has-grants w g xs = ltb (length xs) w || leb g (grants (take w xs))
 
--- Device and memory after all calls.
-unfoldable pub final : ℕ → System → List Call → System
-final start s [] = s
-final start s (c ∷ cs) = final start (after-call start s c) cs
+-- Board and memories after all calls.
+unfoldable pub final : System → List Call → System
+final s [] = s
+final s (c ∷ cs) = final (after-call s c) cs
+
+-- Every rule of a board, every definition of the calls and of the noted words, opened by one name each.
+unfoldable every-board-rule : Unit {0}
+unfolding turn-rules.fresh-turns turn-rules.with-turn turn-rules.with-tags turn-rules.with-place-b turn-rules.with-latest turn-rules.with-content turn-rules.first-word turn-rules.word-held turn-rules.discarded turn-rules.word-lost turn-rules.oldest-buffer turn-rules.oldest-opens turn-rules.oldest-place turn-rules.frame-over turn-rules.last-of-frame turn-rules.word-landed turn-rules.frame-ended landed-at keep keeps board-state.bad-turns board-state.malformed frame-event sample-events two-step two-steps board-calls.disabled board-calls.mode-after board-calls.write board-calls.set-mode one-refusal two-refusal turns-of board-runs.run board-runs.sample board-runs.run-two board-runs.sample-two
+every-board-rule = tt
+
+unfoldable every-note : Unit {0}
+unfolding after-set-up after-set-ups boards refusal accepted after-call samples stepped-in inside moments write-found noted-write with-mode noted-set-up noted-set-ups word-turn turn-after next-turn note noted any-error spacing
+every-note = tt
 
 -- Whether a scenario has these windows, its spacing, how many moments and accepted samples it has, the numbers of the samples at which
 -- words are noted, and of the device at the end its counts, its held words and OVR.
@@ -63,11 +90,11 @@ pub record Outcome : Type 0 where
   pub overrun : Bool
 
 unfoldable pub outcome : ℕ → ℕ → Scenario → Outcome
-unfolding final grants spacing after-set-up after-set-ups devices accepted after-call samples inside moments noted-write noted-set-up noted-set-ups write-found note noted any-error every-rule in-memory sample
+unfolding every-rule every-board-rule every-note final grants
 outcome w g x =
-    let d = final (x .start) (set-up x) (x .calls) .device in
+    let d = final (set-up x) (x .calls) .board .device in
     record {
-      met = not (bad-depth (x .depth)) && (has-room x && (tails (has-grants w g) (trace x) && not (any-error (configured x) (trace x))));
+      met = not (bad-depth (x .depth)) && (has-room x && (tails (has-grants w g) (trace x) && not (any-error (configured x .capture) (trace x))));
       distance = distance x;
       moments = length (all-moments x);
       samples = length (trace x);
@@ -82,13 +109,13 @@ outcome w g x =
 pub windows : (w g : ℕ) (x : Scenario) → outcome w g x .met ≡ true → Windows w g x
 unfolding outcome
 windows w g x e =
-    let calm = not (any-error (configured x) (trace x)) in
+    let calm = not (any-error (configured x .capture) (trace x)) in
     let (sound, rest) = and-true (not (bad-depth (x .depth))) (has-room x && (tails (has-grants w g) (trace x) && calm)) e in
-    let (fits, others) = and-true (has-room x) (tails (has-grants w g) (trace x) && calm) rest in
+    let (space, others) = and-true (has-room x) (tails (has-grants w g) (trace x) && calm) rest in
     let (dense, quiet) = and-true (tails (has-grants w g) (trace x)) calm others in
     record {
       made = not-true _ sound;
-      room = leb-true _ _ fits;
+      room = each-all (Room x) (fits x) (λ n h. leb-true _ _ h) (noted-by x (length (trace x))) space;
       granted = λ k h. window k h (each-tail (has-grants w g) (trace x) dense k);
       no-error = not-true _ quiet;
     }
@@ -146,6 +173,10 @@ abbrev pub periods : ℕ → ℕ → ℕ → List Bool
 periods zero m n = []
 periods (suc k) m n = replicate m true ++ replicate n false ++ periods k m n
 
+-- One memory with its start byte; the other is not lent.
+abbrev pub alone : ℕ → List ℕ → Both
+alone start memory = record { a = record { memory = memory; start = start }; b = record { memory = []; start = 0 } }
+
 -- One run on a device of some depth: a blank edge and then some samples; pixels with these grants; frames of one pixel.
 abbrev pub one-run-of : ℕ → SetUpCall → List ℕ → Scenario
 one-run-of depth cr ws =
@@ -153,8 +184,7 @@ one-run-of depth cr ws =
       depth = depth;
       set-up-calls = cr ∷ [];
       calls = a-run (0x0C000 ∷ 0x1C000 ∷ ws) ∷ [];
-      start = 0;
-      memory = replicate (length ws) 0xEE;
+      lent = alone 0 (replicate (length ws) 0xEE);
     }
 
 abbrev pub one-run : ℕ → SetUpCall → List Bool → Scenario

@@ -1,5 +1,5 @@
--- The premise is needed at every depth (W9): with windows one sample longer, or with one grant fewer in each, a frame overruns, though there is room, with JPEG too (W4). At depths 1 and 4
--- by computation over the rules, at depth 32 on the queue alone, whose theorem is over every depth and spacing.
+-- The premise is needed at every depth (W9): with windows one sample longer, or with one grant fewer in each, a frame overruns, though there is room, with JPEG (W4) and with two buffers (W2) too. At depths 1 and 4
+-- by computation over the rules, at depth 32 on the queue alone, whose theorem is over every depth and spacing. Assumes nothing.
 use mathlib.Core.Bool.{true, false}
 use mathlib.Core.List.{List, [], _∷_, _++_, map}
 use mathlib.Core.Path.{_≡_, refl, ap, _∙_}
@@ -8,9 +8,9 @@ use native.Mathlib.Omega.{arith}
 use lib.ListN.{length, replicate}
 use Rattle.bits.specs.Bits.{bit}
 use Rattle.queue.proofs.Sharp as queue
-use Rattle.delivery.specs.Calls.{a-run}
+use Rattle.delivery.specs.Calls.{two-buffers, a-run, a-run-two}
 use Rattle.delivery.specs.Delivery.{Scenario, set-up, trace, noted-by}
-use Rattle.delivery.proofs.Outcome.{Windows, final, Outcome, outcome, windows, twelve-bits, eight-bits, coded, clocked, code, granting, every, periods, one-run, padded-run}
+use Rattle.delivery.proofs.Outcome.{Windows, final, Outcome, outcome, windows, twelve-bits, eight-bits, coded, clocked, code, granting, pixels, every, periods, alone, one-run, padded-run}
 
 pub record Overruns (w g : ℕ) (noted : List ℕ) (m : ℕ) (x : Scenario) : Type 0 where
   -- The device was made, there is room for all words, and each w samples hold at least g grants.
@@ -18,8 +18,8 @@ pub record Overruns (w g : ℕ) (noted : List ℕ) (m : ℕ) (x : Scenario) : Ty
   -- Words are noted at these samples.
   pub words : map (λ n. n .sample) (noted-by x (length (trace x))) ≡ noted
   -- At the end OVR is up, and m words are lost.
-  pub overrun : bit 1 (final (x .start) (set-up x) (x .calls) .device .core .capture .registers .ris) ≡ true
-  pub discarded : final (x .start) (set-up x) (x .calls) .device .core .output .counts .discarded ≡ m
+  pub overrun : bit 1 (final (set-up x) (x .calls) .board .device .core .capture .registers .ris) ≡ true
+  pub discarded : final (set-up x) (x .calls) .board .device .core .output .counts .discarded ≡ m
 
 -- The outcome of a run of n samples with k words: l of them land, and the last is lost and takes the held ones, as many as the depth, with it: m together.
 abbrev last-lost : ℕ → ℕ → ℕ → ℕ → ℕ → Outcome
@@ -97,8 +97,7 @@ as-without-codes =
           (clocked (code 0xA1) ++ clocked (1 ∷ 2 ∷ 3 ∷ 0xFF ∷ []) ++ granting (clocked (0 ∷ 4 ∷ [])) ++
           clocked (5 ∷ 6 ∷ 7 ∷ 8 ∷ 9 ∷ 10 ∷ 11 ∷ 12 ∷ 13 ∷ 14 ∷ 15 ∷ 16 ∷ 17 ∷ 18 ∷ [])) ∷
           [];
-      start = 0;
-      memory = replicate 20 0xEE;
+      lent = alone 0 (replicate 20 0xEE);
     }
 
 abbrev too-few : Outcome
@@ -137,6 +136,35 @@ depth-1-slow-8 = overruns 9 1 8 3 26 1 2 (one-run 1 eight-bits (replicate 6 fals
 pub depth-1-scarce-8 : Overruns 8 0 (every 8 10 2) 2 (one-run 1 eight-bits (replicate 16 false))
 unfolding outcome
 depth-1-scarce-8 = overruns 8 0 8 2 18 0 2 (one-run 1 eight-bits (replicate 16 false)) refl
+
+-- With two buffers (W2) at depth 1: one grant in each 5 samples. The words are those of one frame.
+abbrev slow-in-two : Scenario
+slow-in-two =
+    record {
+      depth = 1;
+      set-up-calls = two-buffers ∷ twelve-bits ∷ [];
+      calls = a-run-two (0x0C000 ∷ 0x1C000 ∷ pixels 0 (replicate 2 false ++ periods 2 1 4)) ∷ [];
+      lent = alone 0 (replicate 12 0xEE);
+    }
+
+abbrev lost-in-two : Outcome
+lost-in-two =
+    record {
+      met = true;
+      distance = 4;
+      moments = 14 + 4;
+      samples = 14;
+      noted = every 4 6 3;
+      completed = 3;
+      landed = 1;
+      discarded = 2;
+      held = [];
+      overrun = true;
+    }
+
+pub depth-1-slow-two : Overruns 5 1 (every 4 6 3) 2 slow-in-two
+unfolding outcome
+depth-1-slow-two = overruns-as 5 1 lost-in-two slow-in-two refl refl refl
 
 -- Depth 32, on the queue: 32 grants in each 129 samples, 31 in each 128; at 8 bits 32 in each 257, 31 in each 256.
 pub depth-32-slow : queue.Starved 32 4 129 32

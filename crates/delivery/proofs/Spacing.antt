@@ -1,6 +1,6 @@
 -- Words are noted at least 8 samples apart at 8 bits without JPEG and ESS, else 4, from any capture state whose CR is accepted. The idea: each datum takes a working edge, and with it
 -- a sample at the clock's other level before the next, and so does the frame's end that pads a word (W4); so no word comes before its samples are reached, and after a word they begin
--- anew. With ESS 1 the bytes that wait count beside the data (W6, crate laws, `pace`).
+-- anew. With ESS 1 the bytes that wait count beside the data (W6, crate laws, `pace`). Assumes nothing.
 use mathlib.Core.Bool.{Bool, true, false, cond, not, _&&_, Bool·beq, false≢true}
 use mathlib.Core.List.{List, [], _∷_}
 use mathlib.Core.Option.{Option, none, some}

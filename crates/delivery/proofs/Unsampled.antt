@@ -1,39 +1,45 @@
--- Before the first sample all is promised, whatever the set-up calls are: no word is noted, and none is held, landed or lost.
-use mathlib.Core.List.{List, [], _∷_, map, append-nil}
-use mathlib.Core.Path.{_≡_, sym, ap}
+-- Before the first sample all is promised, whatever the set-up calls are: no word is noted, and none is held, landed or lost. Assumes nothing.
+use mathlib.Core.List.{List, [], _∷_, _++_, map}
+use mathlib.Core.Path.{_≡_, refl, ap}
 use Prim.Native.Nat.{ℕ}
-use native.Mathlib.Nat.{add-zero}
 use native.Mathlib.Omega.{arith}
-use lib.ListN.{length, length-append, take-append-drop}
+use lib.ListN.{length, length-append}
+use Rattle.buffers.specs.declared.Buffer.{Buffer}
+use Rattle.buffers.specs.declared.Buffer.the-variants.{A, B}
 use Rattle.output.specs.Output.{with-held, holding, fresh-output, contents, laid}
-use Rattle.landing.specs.Memory.{all-bytes, with-words}
-use Rattle.rules.specs.declared.Capture.{Capture}
-use Rattle.rules.specs.declared.Device.{Device}
-use Rattle.delivery.specs.Calls.{SetUpCall, devices}
-use Rattle.delivery.specs.Noted.{noted}
+use Rattle.board_rules.specs.declared.Board.{Board}
+use Rattle.board_rules.specs.TwoBuffers.{part}
+use Rattle.board_rules.specs.BoardRuns.{lent, memories}
+use Rattle.delivery.specs.Calls.{SetUpCall, boards}
+use Rattle.delivery.specs.Noted.{Configured, Noted, noted}
+use Rattle.delivery.specs.Placed.{with-noted}
 use Rattle.delivery.specs.Delivery.{Scenario, Promised, All, unsampled}
 use Rattle.delivery.proofs.SetUp.{Ready, one-ready}
 use Rattle.delivery.proofs.OneCall.{none-some}
 
-no-words : (start : ℕ) (memory : List ℕ) → memory ≡ with-words start [] memory
-unfolding with-words all-bytes
-no-words start memory = rw (append-nil, add-zero) (sym (take-append-drop start memory))
+as-lent : (x : Scenario) (u : Buffer) → part u (memories (x .lent)) ≡ lent u (x .lent) .memory
+as-lent x A = refl
+as-lent x B = refl
 
-promised : {depth : ℕ} (x : Scenario) (s : Capture) (d : Device) → Ready depth s d → Promised x (unsampled x d)
-unfolding noted fresh-output holding with-held contents laid
-promised x s d r =
+no-word : (before : List Noted) (w : Noted) (after : List Noted) → [] ≡ before ++ w ∷ after → ⊥
+no-word before w after e = omega (arith, simp length-append at (ap length e))
+
+promised : {depth : ℕ} (x : Scenario) (c : Configured) (b : Board) → Ready depth c b → Promised x (unsampled x b)
+unfolding noted with-noted fresh-output holding with-held contents laid
+promised x c b r =
     record {
       no-overrun = rw (r .is, r .no-flag);
       none-discarded = rw (r .is);
       completed = rw (r .is);
-      in-memory = rw (r .is) (no-words _ (x .memory));
+      in-memory = λ u. rw (r .is) (as-lent x u);
       held = rw (r .is);
       split = rw (r .is);
-      in-time = λ before w after e h. absurd (omega (arith, simp length-append at (ap length e)));
+      in-time = λ before w after e h. absurd (no-word before w after e);
+      stands = λ before w after e others. absurd (no-word before w after (rw (r .is) at e));
       answers = λ p e. absurd (none-some e);
     }
 
-pub each-promised : {depth : ℕ} (x : Scenario) (s : Capture) (d : Device) (cs : List SetUpCall) → Ready depth s d → All (Promised x) (map (unsampled x) (devices d cs))
-unfolding devices
-each-promised x s d [] r = (promised x s d r, tt)
-each-promised x s d (c ∷ cs) r = (promised x s d r, each-promised x _ _ cs (one-ready s d c r))
+pub each-promised : {depth : ℕ} (x : Scenario) (c : Configured) (b : Board) (cs : List SetUpCall) → Ready depth c b → All (Promised x) (map (unsampled x) (boards b cs))
+unfolding boards
+each-promised x c b [] r = (promised x c b r, tt)
+each-promised x c b (s ∷ cs) r = (promised x c b r, each-promised x _ _ cs (one-ready c b s r))

@@ -1,3 +1,4 @@
 pub mod Calls
 pub mod Noted
+pub mod Placed
 pub mod Delivery

@@ -1,6 +1,6 @@
--- The words of the claim, from the inputs alone: the register rules and rules 2 to 8, over the accepted writes and samples from reset,
--- without grants or FIFO, note each full word with its sample's number.
-use mathlib.Core.Bool.{Bool, false, cond, not, _&&_, _||_}
+-- The words of the claim, from the inputs alone: the register rules and rules 2 to 8, over the accepted writes, mode changes (W2) and samples from reset,
+-- without grants or FIFO, note each full word with its sample's number, its buffer and its number there.
+use mathlib.Core.Bool.{Bool, true, false, cond, not, _&&_, _||_}
 use mathlib.Core.List.{List, [], _∷_, _++_, map}
 use mathlib.Core.Option.{Option, none, some}
 use Prim.Native.Nat.{ℕ, _+_}
@@ -9,12 +9,17 @@ use Rattle.registers.specs.Control.{jpeg, embedded, edm}
 use Rattle.registers.specs.Map.{register-at}
 use Rattle.registers.specs.declared.Found.{Found}
 use Rattle.registers.specs.declared.Found.the-variants.{At, Nothing}
+use Rattle.buffers.specs.declared.Buffer.{Buffer}
+use Rattle.buffers.specs.declared.Buffer.the-variants.{A, B}
+use Rattle.buffers.specs.Turns.{other}
 use Rattle.rules.specs.declared.Capture.{Capture}
+use Rattle.rules.specs.Capture.{Captured, enabled}
 use Rattle.refusals.specs.Refusals.{first}
 use Rattle.rules.specs.Sample.{capture-sample, next-capture}
 use Rattle.rules.specs.Run.{Packed, nothing, completed}
 use Rattle.rules.specs.RegisterCalls.{register-tests, write-register}
-use Rattle.delivery.specs.Calls.{SetUpCall, a-write}
+use Rattle.board_rules.specs.TwoBuffers.{closes}
+use Rattle.delivery.specs.Calls.{SetUpCall, a-write, one-buffer, two-buffers}
 
 -- A register write by the register rules alone: refused by 2 to 6, or its effect.
 unfoldable pub write-found : Found → ℕ → Capture → Capture
@@ -27,27 +32,63 @@ noted-write s offset v =
     (write-found (register-at offset) v s)
     s
 
+-- The capture state, and whether the mode is two (W2). A mode change is refused while ENABLE is 1.
+pub record Configured : Type 0 where
+  pub capture : Capture
+  pub two : Bool
+
+unfoldable pub with-mode : Bool → Configured → Configured
+with-mode two c = record { capture = c .capture; two = cond (enabled (c .capture)) (c .two) two }
+
 -- A set-up call, and some.
-unfoldable pub noted-set-up : Capture → SetUpCall → Capture
-noted-set-up s (a-write offset value fits) = noted-write s offset value
+unfoldable pub noted-set-up : Configured → SetUpCall → Configured
+noted-set-up c (a-write offset value fits) = record { capture = noted-write (c .capture) offset value; two = c .two }
+noted-set-up c one-buffer = with-mode false c
+noted-set-up c two-buffers = with-mode true c
 
-unfoldable pub noted-set-ups : Capture → List SetUpCall → Capture
-noted-set-ups s [] = s
-noted-set-ups s (c ∷ cs) = noted-set-ups (noted-set-up s c) cs
+unfoldable pub noted-set-ups : Configured → List SetUpCall → Configured
+noted-set-ups c [] = c
+noted-set-ups c (x ∷ xs) = noted-set-ups (noted-set-up c x) xs
 
--- A noted word and the number of its sample.
+-- W2: with two buffers the words "are numbered from 0 in each frame and go to the buffer that the switching names". Kept are the buffer of the frame that completed a word last, and how many the
+-- open frame has completed. With one buffer all go to A, numbered from 0.
+pub record Turn : Type 0 where
+  pub buffer : Buffer
+  pub number : ℕ
+
+abbrev pub first-turn : Bool → Turn
+first-turn two = record { buffer = cond two B A; number = 0 }
+
+-- Buffer and number of the next word: "the first word a frame completes switches to the other".
+unfoldable pub word-turn : Bool → Turn → Turn
+word-turn two t = cond (two && eqb (t .number) 0) (record { buffer = other (t .buffer); number = 0 }) t
+
+unfoldable pub turn-after : Bool → Turn → Option ℕ → Turn
+turn-after two t none = t
+turn-after two t (some v) = record { buffer = word-turn two t .buffer; number = word-turn two t .number + 1 }
+
+-- After a sample: its word, and then the end of its frame.
+unfoldable pub next-turn : Bool → Turn → Capture → Captured → Turn
+next-turn two t s c =
+    let u = turn-after two t (c .word) in
+    cond (two && closes s c) (record { buffer = u .buffer; number = 0 }) u
+
+-- A noted word, the number of its sample, its buffer and its number there.
 pub record Noted : Type 0 where
   pub word : ℕ
   pub sample : ℕ
+  pub turn : Turn
 
-unfoldable pub note : ℕ → Option ℕ → List Noted
-note n none = []
-note n (some v) = record { word = v; sample = n } ∷ []
+unfoldable pub note : ℕ → Turn → Option ℕ → List Noted
+note n t none = []
+note n t (some v) = record { word = v; sample = n; turn = t } ∷ []
 
 -- The words noted from a state at some samples, n samples being before them. No word is lost, so that FRAME rises where it is due.
-unfoldable pub noted : ℕ → Capture → List ℕ → List Noted
-noted n s [] = []
-noted n s (w ∷ ws) = note (n + 1) (capture-sample s w .word) ++ noted (n + 1) (next-capture s w) ws
+unfoldable pub noted : ℕ → Bool → Turn → Capture → List ℕ → List Noted
+noted n two t s [] = []
+noted n two t s (w ∷ ws) =
+    let c = capture-sample s w in
+    note (n + 1) (word-turn two t) (c .word) ++ noted (n + 1) two (next-turn two t s c) (next-capture s w) ws
 
 abbrev pub words : List Noted → List ℕ
 words ns = map (λ x. x .word) ns

@@ -5,7 +5,7 @@ use mathlib.Core.Path.{_≡_, refl, sym, ap, _∙_}
 use Prim.Native.Nat.{ℕ, zero, suc, _≤_}
 use native.Mathlib.Omega.{arith}
 use lib.Dec.{eqb, leb}
-use lib.ListN.{length, take, drop, getD, length-drop, take-append-drop}
+use lib.ListN.{length, take, drop, getD, length-append, length-drop, take-append-drop}
 use lib.Seq.{take-all, take-length, drop-length, take-at, drop-at, take-add, paste}
 use native.Mathlib.Nat.{zero-add}
 use borrow.Author.Tests.{leb-true, eqb-true}
@@ -20,15 +20,15 @@ use Rattle.bits.proofs.Booleans.{and-true}
 use Rattle.device_words.specs.Image.{flag, frame-word, lines-word, pixels-word, image-words, slot, behind, words-behind, image-of, flags-encode, frame-encodes, encodes, frame-of, waiting-of, device-of}
 
 -- A flag and its word.
-flag-back : (b : Bool) → eqb (flag b) 1 ≡ b
+pub flag-back : (b : Bool) → eqb (flag b) 1 ≡ b
 flag-back true = refl
 flag-back false = refl
 
-flag-fits : (b : Bool) → leb (flag b) 1 ≡ true
+pub flag-fits : (b : Bool) → leb (flag b) 1 ≡ true
 flag-fits true = refl
 flag-fits false = refl
 
-word-back : (x : ℕ) → leb x 1 ≡ true → flag (eqb x 1) ≡ x
+pub word-back : (x : ℕ) → leb x 1 ≡ true → flag (eqb x 1) ≡ x
 word-back zero e = refl
 word-back (suc zero) e = refl
 word-back (suc (suc x)) e = absurd (omega (arith, leb-true (suc (suc x)) 1 e))
@@ -87,7 +87,7 @@ count-back (suc (suc (suc zero))) e = refl
 count-back (suc (suc (suc (suc n)))) e = absurd (omega (arith, leb-true (suc (suc (suc (suc n)))) 3 e))
 
 -- The first elements of a list, one by one.
-elements : List ℕ → ℕ → ℕ → List ℕ
+unfoldable pub elements : List ℕ → ℕ → ℕ → List ℕ
 elements l k zero = []
 elements l k (suc n) = getD l k 0 ∷ elements l (suc k) n
 
@@ -96,7 +96,7 @@ unfolding elements
 elements-later x l k zero = refl
 elements-later x l k (suc n) = ap (λ (r : List ℕ). getD l k 0 ∷ r) (elements-later x l (suc k) n)
 
-elements-first : (n : ℕ) (l : List ℕ) → n ≤ length l → elements l 0 n ≡ take n l
+pub elements-first : (n : ℕ) (l : List ℕ) → n ≤ length l → elements l 0 n ≡ take n l
 unfolding elements
 elements-first zero l le = refl
 elements-first (suc n) [] le = absurd (omega arith)
@@ -105,6 +105,11 @@ elements-first (suc n) (x ∷ l) le = ap (λ (r : List ℕ). x ∷ r) (elements-
 -- A part put over a list as long is that part.
 pub put-whole : (l part : List ℕ) → length part ≡ length l → paste l 0 part (length part) ≡ part
 put-whole l part e = rw (take-length part, zero-add, e, drop-length l, append-nil)
+
+-- The image of a device with all its slots has all its words.
+pub image-size : (d : Device) → length (d .slots) ≡ slot-count → length (image-of d) ≡ image-words
+unfolding image-of
+image-size d all = rw (length-append (d .slots) (words-behind (d .core)), all)
 
 -- Every device with all its slots has an image that encodes it.
 pub device-back : (d : Device) → length (d .slots) ≡ slot-count → device-of (image-of d) ≡ d

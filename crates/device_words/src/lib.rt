@@ -27,7 +27,7 @@ const SLOT: usize = 16;
 
 const BEHIND: usize = 16 + SLOTS;
 
-fn flag(b: bool) -> u32
+pub fn flag(b: bool) -> u32
     ensures { λ r. ⌜ r ≡ image.flag b ⌝ }
 {
     if b {
@@ -69,7 +69,7 @@ fn pixels_word(f: Frame) -> u32
 }
 
 // A part put into words, from an index on.
-fn put(words: &mut [u32], at: usize, part: &[u32])
+pub fn put(words: &mut [u32], at: usize, part: &[u32])
     requires { ⌜ at + length (now part) ≤ length (now words) ⌝ }
     ensures { λ _. ⌜ now (words .exit) ≡ paste (now (words .entry)) at (now (part .entry)) (length (now (part .entry))) ⌝ }
 {

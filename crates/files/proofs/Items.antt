@@ -1,15 +1,15 @@
 -- What the `else` of a `let .. else` knows: below the number of writes an item is a write.
 use mathlib.Core.List.{List, [], _∷_}
-use mathlib.Core.Path.{_≡_, refl, _∙_}
+use mathlib.Core.Path.{_≡_, _∙_}
 use Prim.Native.Nat.{ℕ, _<_}
 use types.Run.{OneOf, miss}
 use denote.Enum.Declared.{tagOf}
-use Rattle.trace.proofs.Item as item-kinds
-use Rattle.trace.specs.declared.Item.{Item}
-use Rattle.trace.specs.declared.Item.the-variants.{Write, Sample, End, Refused}
-use Rattle.trace.specs.Answers as trace-answers
-use Rattle.trace.specs.Reading as reading
-use Rattle.trace.proofs.Walk.{clash, write-place}
+use Rattle.trace_reader.proofs.Item as item-kinds
+use Rattle.trace_reader.specs.declared.Item.{Item}
+use Rattle.trace_reader.specs.declared.Item.the-variants.{Write, Sample, End, Refused}
+use Rattle.trace_reader.specs.Answers as trace-answers
+use Rattle.trace_format.specs.Reading as reading
+use Rattle.trace_format.proofs.Walk.{clash, write-place}
 
 pub a-write : (file : List ℕ) (place : ℕ) (i : Item) → place < reading.write-count file → trace-answers.item i ≡ reading.item file place → OneOf (1 ∷ 2 ∷ 3 ∷ []) (tagOf item-kinds.the-type i) → ⊥
 a-write file place i h e k = go i k (e ∙ write-place file place h)

@@ -15,7 +15,7 @@ use Rattle.rules.specs.declared.Device.{Device}
 use Rattle.rules.specs.RegisterCalls.{register-tests, write-refusal, write}
 use Rattle.rules.specs.Run.{run-refusal, run}
 use Rattle.rules.specs.WellFormed.{malformed}
-use Rattle.trace.specs.Reading.{whole, header-checks, form-of}
+use Rattle.trace_format.specs.Reading.{whole, header-checks, form-of}
 
 -- A number that is neither 1 nor 8.
 abbrev pub Neither : ℕ → Type 0

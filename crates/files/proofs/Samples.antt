@@ -15,15 +15,15 @@ use Rattle.rules.specs.WellFormed.{malformed}
 use Rattle.rules.proofs.WellFormed.{WellFormed, well-formed}
 use Rattle.laws.proofs.Keeps.{steps-append, steps-keep}
 use Rattle.laws.proofs.KeepsSample.{step-samples}
-use Rattle.trace.specs.Format.{sample-limit}
-use Rattle.trace.specs.Reading.{form-refusal, sample-count, sample-start, whole, samples-from, samples-of, file-refusal}
+use Rattle.trace_format.specs.Format.{sample-limit}
+use Rattle.trace_format.specs.Reading.{form-refusal, sample-count, sample-start, whole, samples-from, samples-of, file-refusal}
 use Rattle.trace.specs.Decoding.{samples-in, how-many}
 use Rattle.refusals.proofs.Numbered.{never-zero}
 use Rattle.refusals.specs.Table.{number}
 use Rattle.refusals.specs.declared.Refusal.{Refusal}
-use Rattle.trace.proofs.Filling.{put-over}
-use Rattle.trace.proofs.Form.{formed}
-use Rattle.trace.proofs.Rewritten.{length-samples-from}
+use Rattle.trace_format.proofs.Putting.{put-over}
+use Rattle.trace_format.proofs.Form.{formed}
+use Rattle.trace_format.proofs.Rewritten.{length-samples-from}
 use Rattle.trace.proofs.ManySamples.{samples-over, samples-append, samples-here}
 
 steps-samples : (d : Device) (b ws : List ℕ) → steps d b ws .device .core .output .counts .samples ≡ d .core .output .counts .samples + length ws

@@ -20,9 +20,9 @@ use Rattle.rules.specs.WellFormed.{malformed}
 use Rattle.bits.proofs.Booleans.{either}
 use Rattle.laws.proofs.Keeps.{fresh-well-formed}
 use Rattle.laws.proofs.KeepsWrites.{write-keeps}
-use Rattle.trace.specs.declared.Write.{Write}
-use Rattle.trace.specs.Reading as reading
-use Rattle.trace.proofs.Walk.{write-place}
+use Rattle.trace_format.specs.declared.Write.{Write}
+use Rattle.trace_format.specs.Reading as reading
+use Rattle.trace_format.proofs.Walk.{write-place}
 use Rattle.files.specs.File.{set-up}
 
 found-samples : (d : Device) (r : Found) (v : ℕ) → write-at d r v .core .output .counts .samples ≡ d .core .output .counts .samples

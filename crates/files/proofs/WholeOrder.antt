@@ -17,10 +17,10 @@ use Rattle.rules.specs.RegisterCalls.{write, made}
 use Rattle.rules.specs.Run.{Ran, RunResult, steps, run-refusal, run}
 use Rattle.rules.specs.WellFormed.{malformed}
 use Rattle.laws.proofs.KeepsWrites.{write-keeps}
-use Rattle.trace.specs.Format.{write-start}
-use Rattle.trace.specs.Reading.{form-refusal, version-of, write-count, sample-count, write-at, writes-from, writes-of, samples-of}
-use Rattle.trace.proofs.Fields.{field-below, count-below}
-use Rattle.trace.proofs.Rewritten.{length-samples-of}
+use Rattle.trace_format.specs.Format.{write-start}
+use Rattle.trace_format.specs.Reading.{form-refusal, version-of, write-count, sample-count, write-at, writes-from, writes-of, samples-of}
+use Rattle.trace_format.proofs.Fields.{field-below, count-below}
+use Rattle.trace_format.proofs.Rewritten.{length-samples-of}
 use Rattle.files.specs.File.{set-up, refused, samples-refusal, run-samples, run-content, run-on, run-file, run-file-of}
 use Rattle.files.specs.WholeOrder.{or-fresh, whole-order}
 use Rattle.files.proofs.Neither.{Neither, write-neither, run-neither, form-neither}

@@ -11,8 +11,8 @@ use Rattle.rules.specs.State.{fresh}
 use Rattle.rules.specs.Answers.{Changed}
 use Rattle.rules.specs.RegisterCalls.{write, made}
 use Rattle.rules.specs.Run.{RunResult, steps}
-use Rattle.trace.specs.declared.Write.{Write}
-use Rattle.trace.specs.Reading.{form-refusal, writes-of, samples-of}
+use Rattle.trace_format.specs.declared.Write.{Write}
+use Rattle.trace_format.specs.Reading.{form-refusal, writes-of, samples-of}
 
 -- Register writes in order: the device after all of them, or the first refused write's number.
 unfoldable pub set-up : Device → List Write → Changed

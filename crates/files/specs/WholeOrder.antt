@@ -6,7 +6,7 @@ use Prim.Native.Nat.{ℕ}
 use lib.Dec.{eqb}
 use Rattle.rules.specs.declared.Device.{Device}
 use Rattle.rules.specs.Run.{RunResult, run}
-use Rattle.trace.specs.Reading.{writes-of, samples-of}
+use Rattle.trace_format.specs.Reading.{writes-of, samples-of}
 use Rattle.files.specs.File.{set-up, refused}
 
 -- A refused run leaves what a refused file does.

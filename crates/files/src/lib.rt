@@ -1,5 +1,5 @@
 // Running a trace file on a fresh device, over lent bytes and memory: the form checks, the register writes, then the samples as one run, taken
-// from the file by the trace crate, writes one at a time and samples up to 64 at a time. Refused, the memory is as it was lent.
+// from the file by the crates `trace_reader` and `trace`, writes one at a time and samples up to 64 at a time. Refused, the memory is as it was lent.
 ghost use mathlib.Core.Bool.{false};
 ghost use mathlib.Core.List.{List};
 ghost use mathlib.Core.Path.{_≡_};
@@ -10,7 +10,7 @@ ghost use Rattle.rules.specs.RegisterCalls as register-rules;
 ghost use Rattle.rules.specs.Run as run-rules;
 ghost use Rattle.rules.specs.WellFormed.{malformed};
 ghost use Rattle.rules.proofs.WellFormed.{WellFormed};
-ghost use Rattle.trace.specs.Reading as reading;
+ghost use Rattle.trace_format.specs.Reading as reading;
 ghost use Rattle.sampling.specs.Answers as sample-answers;
 ghost use Rattle.device.specs.Answers as device-answers;
 ghost use Rattle.files.specs.File as file-rules;
@@ -19,15 +19,15 @@ use refusals::Outcome;
 use refusals::Refusal;
 use rules::Device;
 use sampling::run;
-use trace::Item;
-use trace::Write;
 use trace::check_file;
 use trace::check_form;
-use trace::item_at;
 use trace::sample_count;
 use trace::samples_at;
 use trace::samples_start;
 use trace::write_count;
+use trace_format::Write;
+use trace_reader::Item;
+use trace_reader::item_at;
 
 // One write of a file.
 fn write_item(d: Device, w: Write) -> Changed

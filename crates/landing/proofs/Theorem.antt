@@ -1,4 +1,4 @@
--- Under the conditions every word finds room (`fits`), and what is promised of memory and FIFO holds after any first part of the inputs (`landed`).
+-- Under the conditions every word finds room (`fits`, `oldest-room`), and what is promised of memory and FIFO holds after any first part of the inputs (`landed`).
 use mathlib.Core.Bool.{Bool, true, false}
 use mathlib.Core.List.{List, [], _∷_, _++_, append-assoc, append-nil}
 use mathlib.Core.Option.{some}
@@ -7,12 +7,13 @@ use Prim.Native.Nat.{ℕ, _+_, _*_, _≤_, _<_}
 use native.Mathlib.Omega.{arith}
 use lib.ListN.{length, take, drop, length-append}
 use lib.Seq.{append-snoc, take-append-le, take-at, drop-at, drop-drop}
-use Rattle.output.specs.Output.{contents, laid, with-held, holding, fresh-output}
+use Rattle.output.specs.Output.{contents, laid, with-held, holding, fresh-output, room}
 use Rattle.queue.specs.Queue.{Input, start, leave, from, after, words}
 use Rattle.queue.proofs.Flow.{words-append, after-snoc, queue-law}
 use Rattle.queue.proofs.Theorem.{finds-room, served}
 use Rattle.landing.specs.Memory.{all-bytes, with-words}
 use Rattle.landing.specs.Landing.{Out, first-rule, put, puts, Fits, Conditions, Landed}
+use Rattle.landing.proofs.Buffer.{filled-room}
 use Rattle.landing.proofs.Beside.{Beside, rule-beside, put-beside}
 
 -- At reset, with a depth and a frame buffer.
@@ -70,6 +71,15 @@ module _ {on : Bool} {depth s : ℕ} {b₀ : List ℕ} where
 
     in-order : after depth is .left ++ after depth is .held ≡ words is
     in-order = queue-law depth is .1 (beside .lost)
+
+    -- There is room in the frame buffer for the oldest held word.
+    pub oldest-room : 0 < length (contents (puts on (empty depth b₀) is .state)) → room (puts on (empty depth b₀) is .state .output .place) (puts on (empty depth b₀) is .buffer) ≡ true
+    oldest-room pos =
+        let b = beside in
+        let q = after depth is in
+        let all = simp length-append at (ap length in-order) in
+        let more : length (words (is ++ zs)) ≡ length (words is) + length (words zs) = rw (words-append, length-append) in
+        rw (b .place, b .buffer) (filled-room (q .left) b₀ (omega (arith, rw (b .contents) at pos, all, more, c .room)))
 
     left-first : take (length (after depth is .left)) (words is) ≡ after depth is .left
     left-first = rw (← in-order) (take-at _ _ _ refl)

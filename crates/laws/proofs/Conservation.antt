@@ -8,14 +8,15 @@ use Rattle.output.specs.WellFormed.{bad-depth}
 use Rattle.rules.specs.declared.Device.{Device}
 use Rattle.rules.specs.WellFormed.{malformed}
 use Rattle.rules.proofs.WellFormed.{facts}
-use Rattle.laws.specs.Histories.{Call, a-write, a-rearming, a-run, a-sample, after, after-all, reached}
+use Rattle.laws.specs.Histories.{Call, a-write, a-rearming, a-placing, a-run, a-sample, after, after-all, reached}
 use Rattle.laws.proofs.Keeps.{fresh-well-formed, run-keeps, sample-keeps}
-use Rattle.laws.proofs.KeepsWrites.{write-keeps, rearm-keeps}
+use Rattle.laws.proofs.KeepsWrites.{write-keeps, placing-keeps, rearm-keeps}
 
 pub call-keeps : (d : Device) (c : Call) → malformed d ≡ false → malformed (after d c) ≡ false
 unfolding after
 call-keeps d (a-write offset value fits) e = write-keeps d offset value fits e
 call-keeps d a-rearming e = rearm-keeps d e
+call-keeps d (a-placing k) e = placing-keeps d k e
 call-keeps d (a-run memory start samples) e = run-keeps d memory start samples e
 call-keeps d (a-sample memory start w) e = sample-keeps d memory start w e
 

@@ -22,10 +22,10 @@ use Rattle.output.specs.Output.{OutputState, contents, with-held, holding, with
 use Rattle.rules.specs.Capture.{Captured}
 use Rattle.rules.specs.declared.Device.{Device}
 use Rattle.rules.specs.State.{output-of, fresh-of, with-cr, with-ris, with-ier, with-cwstrt, with-cwsize, with-escr, with-esur, with-registers}
-use Rattle.rules.specs.RegisterCalls.{write-control, clear-flags, write-register, write-at, write-refusal, write, rearmed, rearm}
+use Rattle.rules.specs.RegisterCalls.{write-control, clear-flags, write-register, write-at, write-refusal, write, placed, rearmed, rearm}
 use Rattle.rules.specs.Run.{without-word, after-word, full-word, complete, after-grant, counted, step, steps, run-refusal, run, sample}
 use Rattle.rules.specs.WellFormed.{malformed}
-use Rattle.laws.specs.Histories.{Call, a-write, a-rearming, a-run, a-sample, after, after-all, reached, Event, sampled, disabled, samplings, accepted-samplings, samplings-of, disabling-of, events, events-of-all, history}
+use Rattle.laws.specs.Histories.{Call, a-write, a-rearming, a-placing, a-run, a-sample, after, after-all, reached, Event, sampled, disabled, samplings, accepted-samplings, samplings-of, disabling-of, events, events-of-all, history}
 use Rattle.laws.specs.Ledger.{Ledger, blank, sample-entry, landing-entry, word-entry, disabling-entry, error-entry, enter, enter-all, ledger, numbers}
 use Rattle.laws.proofs.Errors.{no-word-in-error}
 use Rattle.laws.proofs.KeepsSample.{step-enable}
@@ -69,7 +69,7 @@ complete-counted (some v) c x alone = ap (λ rises. error-entry rises (word-entr
     without-error false v h = refl
     without-error true v h = let e = h refl in let z : _≡_ {A = ℕ} 0 1 = cc in absurd (omega arith)
 
-step-counted : (d : Device) (b : List ℕ) (w : ℕ)
+pub step-counted : (d : Device) (b : List ℕ) (w : ℕ)
     → enter (numbers (d .core .output)) (sampled (d .core .capture) w (step d b w .landing) (step d b w .packed)) ≡ numbers (step d b w .device .core .output)
 unfolding step after-grant counted count-sample with-counts enter sample-entry Landed
 step-counted d b w =
@@ -91,7 +91,7 @@ steps-enable d b [] = refl
 steps-enable d b (w ∷ ws) = steps-enable (step d b w .device) (step d b w .buffer) ws ∙ step-enable d b w
 
 -- Where ENABLE stays, nothing is disabled.
-none-disabled : (d d′ : Device) → enable (d′ .core .capture .registers .cr) ≡ enable (d .core .capture .registers .cr) → disabling-of d d′ ≡ []
+pub none-disabled : (d d′ : Device) → enable (d′ .core .capture .registers .cr) ≡ enable (d .core .capture .registers .cr) → disabling-of d d′ ≡ []
 unfolding disabling-of
 none-disabled d d′ same = rw same (go (enable (d .core .capture .registers .cr)))
   where
@@ -133,7 +133,7 @@ samples-counted true d b ws = rw (none-disabled d _ (steps-enable d b ws), enter
 samples-counted false d b ws = rw (none-disabled d d refl)
 
 -- Every call, and every list of calls.
-call-counted : (d : Device) (c : Call) → Tell (events d c) d (after d c)
+pub call-counted : (d : Device) (c : Call) → Tell (events d c) d (after d c)
 unfolding events samplings-of accepted-samplings samplings after write rearm rearmed with-place run sample steps enter-all
 call-counted d (a-write offset value fits) =
     by-cond (λ (x : Device). Tell (disabling-of d x) d x) (eqb (write-refusal d offset value) 0) _ _
@@ -143,6 +143,10 @@ call-counted d a-rearming =
     by-cond (λ (x : Device). Tell (disabling-of d x) d x) (eqb (first (malformed d ⇒ 1 ∷ [])) 0) _ _
     (λ e. rw (none-disabled d (rearmed d) refl))
     (λ e. rw (none-disabled d d refl))
+call-counted d (a-placing k) =
+    by-cond (λ (x : Device). Tell (disabling-of d x) d x) (ltb (d .core .output .counts .landed) k) _ _
+    (λ e. rw (none-disabled d d refl))
+    (λ e. rw (none-disabled d (placed k d) refl))
 call-counted d (a-run memory start samples) = samples-counted (eqb (run-refusal d memory start samples) 0) d (drop start memory) samples
 call-counted d (a-sample memory start w) = samples-counted (eqb (run-refusal d memory start (w ∷ [])) 0) d (drop start memory) (w ∷ [])
 

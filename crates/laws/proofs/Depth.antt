@@ -2,7 +2,7 @@
 use mathlib.Core.List.{List, [], _∷_}
 use mathlib.Core.Path.{_≡_, refl, _∙_}
 use Prim.Native.Nat.{ℕ}
-use lib.Dec.{eqb}
+use lib.Dec.{eqb, ltb}
 use lib.ListN.{drop}
 use Rattle.bits.proofs.Booleans.{either}
 use Rattle.registers.specs.Map.{register-at}
@@ -17,7 +17,7 @@ use Rattle.rules.specs.State.{output-of, fresh-of}
 use Rattle.rules.specs.RegisterCalls.{disables, write-at, write-refusal, write, rearmed, rearm}
 use Rattle.rules.specs.Run.{after-grant, counted, step, steps, run-refusal, run, sample}
 use Rattle.rules.specs.WellFormed.{malformed}
-use Rattle.laws.specs.Histories.{Call, a-write, a-rearming, a-run, a-sample, after, reached}
+use Rattle.laws.specs.Histories.{Call, a-write, a-rearming, a-placing, a-run, a-sample, after, reached}
 use Rattle.laws.proofs.KeepsSample.{by-word}
 use Rattle.laws.proofs.Conservation.{calls-keep}
 
@@ -45,6 +45,7 @@ unfolding after write rearm rearmed with-place run sample
 call-depth depth d (a-write offset value fits) h =
     either (Has depth) (eqb (write-refusal d offset value) 0) (write-at-depth d (register-at offset) value ∙ h) h
 call-depth depth d a-rearming h = either (Has depth) (eqb (first (malformed d ⇒ 1 ∷ [])) 0) h h
+call-depth depth d (a-placing k) h = either (Has depth) (ltb (d .core .output .counts .landed) k) h h
 call-depth depth d (a-run memory start samples) h =
     either (Has depth) (eqb (run-refusal d memory start samples) 0) (steps-depth d (drop start memory) samples ∙ h) h
 call-depth depth d (a-sample memory start w) h =

@@ -7,7 +7,7 @@ use mathlib.Core.Path.{_≡_, refl, sym, _∙_}
 use Prim.Native.Nat.{ℕ, zero, suc, _-_, _/_, _%_, _^_}
 use native.Mathlib.Omega.{arith}
 use lib.Bits.{bitAnd, and-step, and-le-l}
-use lib.Dec.{eqb}
+use lib.Dec.{eqb, ltb}
 use lib.ListN.{drop}
 use borrow.Author.Tests.{eqb-false, ne-eqb, not-true}
 use Rattle.bits.specs.Bits.{bit}
@@ -27,7 +27,7 @@ use Rattle.rules.specs.Sample.{capture-sample}
 use Rattle.rules.specs.RegisterCalls.{enabling, disabling, switch-enable, capture-rises, switch-capture, write-control, clear-flags, write-register, write-at, write-refusal, write, rearmed, rearm}
 use Rattle.rules.specs.Run.{lose-frame, after-grant, step, steps, run-refusal, run, sample}
 use Rattle.rules.specs.WellFormed.{malformed}
-use Rattle.laws.specs.Histories.{Call, a-write, a-rearming, a-run, a-sample, after, after-all, reached, Event, sampled, disabled, samplings, accepted-samplings, samplings-of, events, events-of-all, history, no-errors, without-codes}
+use Rattle.laws.specs.Histories.{Call, a-write, a-rearming, a-placing, a-run, a-sample, after, after-all, reached, Event, sampled, disabled, samplings, accepted-samplings, samplings-of, events, events-of-all, history, no-errors, without-codes}
 use Rattle.laws.proofs.RegisterValues.{above, raised-other}
 use Rattle.laws.proofs.Errors.{risen-in-error, no-error-by-pins}
 use Rattle.laws.proofs.Kept.{flagged-kept}
@@ -128,6 +128,7 @@ unfolding after events samplings-of accepted-samplings samplings write rearm rea
 call-error d (a-write offset value fits) none low =
     either No-error (eqb (write-refusal d offset value) 0) (write-at-error d (register-at offset) value low) low
 call-error d a-rearming none low = either No-error (eqb (first (malformed d ⇒ 1 ∷ [])) 0) low low
+call-error d (a-placing k) none low = either No-error (ltb (d .core .output .counts .landed) k) low low
 call-error d (a-run memory start samples) none low =
     samples-error (eqb (run-refusal d memory start samples) 0) d (drop start memory) samples (and-true _ _ (sym (errors-append _ _) ∙ none) .0) low
 call-error d (a-sample memory start w) none low =

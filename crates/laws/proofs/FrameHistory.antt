@@ -8,7 +8,7 @@ use mathlib.Core.Option.{Option}
 use mathlib.Core.Path.{_≡_, refl}
 use Prim.Native.Nat.{ℕ, _≤_}
 use native.Mathlib.Omega.{arith}
-use lib.Dec.{eqb}
+use lib.Dec.{eqb, ltb}
 use lib.ListN.{drop}
 use borrow.Author.Tests.{eqb-true}
 use Rattle.bits.proofs.Booleans.{and-unit, by-cond, either}
@@ -40,7 +40,7 @@ use Rattle.rules.specs.RegisterCalls.{changes-setup, fixed-at, register-tests, 
 use Rattle.rules.specs.Run.{Packed, lose-frame, after-grant, step, steps, run-refusal, run, sample}
 use Rattle.rules.specs.WellFormed.{malformed}
 use Rattle.rules.proofs.WellFormed.{CaptureOk, facts}
-use Rattle.laws.specs.Histories.{Call, a-write, a-rearming, a-run, a-sample, after, after-all, reached, Event, sampled, samplings, accepted-samplings, samplings-of, disabling-of, events, events-of-all, history}
+use Rattle.laws.specs.Histories.{Call, a-write, a-rearming, a-placing, a-run, a-sample, after, after-all, reached, Event, sampled, samplings, accepted-samplings, samplings-of, disabling-of, events, events-of-all, history}
 use Rattle.laws.specs.FrameHistory.{FrameHistory, no-history, starts-frame, edge-entry, byte-entry, sampling-entry, frame-entry, frame-entries, frame-history}
 use Rattle.laws.proofs.RegisterValues.{same-crop}
 use Rattle.laws.proofs.KeepsSample.{by-word}
@@ -158,6 +158,7 @@ call-told : (d : Device) (c : Call) (h : FrameHistory) → malformed d ≡ false
 unfolding events samplings-of accepted-samplings after rearm rearmed run sample step steps frame-entries
 call-told d (a-write offset value fits) h formed told = rw (disabling-told d (write d offset value .device) h) (write-told d offset value h formed told)
 call-told d a-rearming h formed told = rw (disabling-told d (rearm d .device) h) (either (λ (e : Device). Told (e .core .capture) h) (eqb (first (malformed d ⇒ 1 ∷ [])) 0) told told)
+call-told d (a-placing k) h formed told = rw (disabling-told d (after d (a-placing k)) h) (either (λ (e : Device). Told (e .core .capture) h) (ltb (d .core .output .counts .landed) k) told told)
 call-told d (a-run memory start samples) h formed told =
     rw (entries-append, disabling-told d (run d memory start samples .device) _)
     (samples-told (eqb (run-refusal d memory start samples) 0) d (drop start memory) samples h told)

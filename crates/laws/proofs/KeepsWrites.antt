@@ -1,13 +1,13 @@
 -- Register writes and re-arming keep a well-formed device well-formed.
 -- The idea: an accepted write has passed refusals 4 to 6, and these are what well-formedness asks of the register. Assumes nothing.
-use mathlib.Core.Bool.{false, not, _&&_}
+use mathlib.Core.Bool.{false, cond, not, _&&_}
 use mathlib.Core.List.{[], _∷_}
 use mathlib.Core.Path.{_≡_, refl, sym, _∙_}
-use Prim.Native.Nat.{ℕ, _^_, _<_}
+use Prim.Native.Nat.{ℕ, _^_, _≤_, _<_}
 use native.Mathlib.Nat.{sub-le, le-trans}
 use native.Mathlib.Omega.{arith}
-use lib.Dec.{eqb}
-use borrow.Author.Tests.{eqb-true, not-false}
+use lib.Dec.{eqb, ltb}
+use borrow.Author.Tests.{ltb-false, eqb-true, not-false}
 use Rattle.bits.specs.Bits.{field}
 use Rattle.registers.specs.Control.{enable}
 use Rattle.registers.specs.Map.{reserved-set, register-at}
@@ -21,7 +21,7 @@ use Rattle.output.specs.Output.{OutputState, with-held, holding, with-counts, c
 use Rattle.output.proofs.WellFormed.{enabling-ok, discard-ok}
 use Rattle.refusals.specs.Refusals.{_⇒_, first}
 use Rattle.rules.specs.WellFormed.{malformed, excluded}
-use Rattle.rules.specs.RegisterCalls.{reserved-at, unsupported-at, fixed-at, register-tests, write-refusal, write-control, clear-flags, write-register, write-at, write, rearmed, rearm}
+use Rattle.rules.specs.RegisterCalls.{reserved-at, unsupported-at, fixed-at, register-tests, write-refusal, write-control, clear-flags, write-register, write-at, write, placed, rearmed, rearm}
 use Rattle.rules.proofs.Booleans.{and-false-left, not-is-true}
 use Rattle.bits.proofs.Booleans.{by-cond, either}
 use Rattle.rules.proofs.WellFormed.{CaptureOk, WellFormed, facts, well-formed}
@@ -108,15 +108,25 @@ write-keeps d offset v small e =
     (λ t. well-formed _ (accepted-ok d offset v small (eqb-true _ 0 t) (facts d e)))
     (λ t. e)
 
-rearmed-ok : (d : Device) → WellFormed d → WellFormed (rearmed d)
-unfolding rearmed with-place
-rearmed-ok d w =
+-- Another place, at most landed; re-arming sets it to 0.
+pub placed-ok : (k : ℕ) (d : Device) → k ≤ d .core .output .counts .landed → WellFormed d → WellFormed (placed k d)
+unfolding with-place
+placed-ok k d le w =
     let q = w .output in
     record {
       capture = w .capture;
-      output =
-          record { depth = q .depth; held = q .held; clear = q .clear; idle = q .idle; completed = q .completed; place = omega arith; equation = q .equation };
+      output = record { depth = q .depth; held = q .held; clear = q .clear; idle = q .idle; completed = q .completed; place = le; equation = q .equation };
     }
+
+pub placing-keeps : (d : Device) (k : ℕ) → malformed d ≡ false → malformed (cond (ltb (d .core .output .counts .landed) k) d (placed k d)) ≡ false
+placing-keeps d k e =
+    by-cond (λ (x : Device). malformed x ≡ false) (ltb (d .core .output .counts .landed) k) _ _
+    (λ t. e)
+    (λ t. well-formed _ (placed-ok k d (ltb-false _ k t) (facts d e)))
+
+pub rearmed-ok : (d : Device) → WellFormed d → WellFormed (rearmed d)
+unfolding rearmed
+rearmed-ok d w = placed-ok 0 d (omega arith) w
 
 pub rearm-keeps : (d : Device) → malformed d ≡ false → malformed (rearm d .device) ≡ false
 unfolding rearm

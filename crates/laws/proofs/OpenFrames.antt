@@ -4,7 +4,7 @@ use mathlib.Core.Bool.{Bool, true, false, _&&_}
 use mathlib.Core.List.{List, [], _∷_}
 use mathlib.Core.Path.{_≡_, refl}
 use Prim.Native.Nat.{ℕ}
-use lib.Dec.{eqb}
+use lib.Dec.{eqb, ltb}
 use lib.ListN.{drop}
 use Rattle.bits.proofs.Booleans.{either}
 use Rattle.registers.specs.Control.{capture, embedded, enable}
@@ -32,7 +32,7 @@ use Rattle.rules.specs.Sample.{byte-of, edge, capture-sample}
 use Rattle.rules.specs.RegisterCalls.{enabling, disabling, switch-enable, capture-rises, switch-capture, write-control, clear-flags, write-register, write-at, write-refusal, write, rearmed, rearm}
 use Rattle.rules.specs.Run.{lose-frame, after-grant, step, steps, run-refusal, run, sample}
 use Rattle.rules.specs.WellFormed.{malformed}
-use Rattle.laws.specs.Histories.{Call, a-write, a-rearming, a-run, a-sample, after, reached}
+use Rattle.laws.specs.Histories.{Call, a-write, a-rearming, a-placing, a-run, a-sample, after, reached}
 use Rattle.laws.specs.Seeking.{Runs-in, Runs}
 use Rattle.laws.proofs.KeepsSample.{by-word}
 use Rattle.laws.proofs.Conservation.{calls-keep}
@@ -174,6 +174,7 @@ unfolding after write rearm rearmed run sample
 call-runs d (a-write offset value fits) runs =
     either (λ (e : Device). Runs (e .core .capture)) (eqb (write-refusal d offset value) 0) (write-at-runs d (register-at offset) value runs) runs
 call-runs d a-rearming runs = either (λ (e : Device). Runs (e .core .capture)) (eqb (first (malformed d ⇒ 1 ∷ [])) 0) runs runs
+call-runs d (a-placing k) runs = either (λ (e : Device). Runs (e .core .capture)) (ltb (d .core .output .counts .landed) k) runs runs
 call-runs d (a-run memory start samples) runs =
     either (λ (e : Device). Runs (e .core .capture)) (eqb (run-refusal d memory start samples) 0) (steps-run d (drop start memory) samples runs) runs
 call-runs d (a-sample memory start w) runs =

@@ -1,23 +1,24 @@
--- Every list of calls on a device made with a depth (W9), in any order: register writes, re-arming, runs and single samples, each with whatever memory and
+-- Every list of calls on a device made with a depth (W9), in any order: register writes, re-arming, placings (W2), runs and single samples, each with whatever memory and
 -- start byte it is lent. A refused call changes nothing, so the list stands for its accepted calls. And the events of such a list, in order.
 use mathlib.Core.Bool.{Bool, true, cond, not, _&&_}
 use mathlib.Core.List.{List, [], _∷_, _++_}
 use mathlib.Core.Option.{Option}
 use Prim.Native.Nat.{ℕ, _<_, _^_}
-use lib.Dec.{eqb}
+use lib.Dec.{eqb, ltb}
 use lib.ListN.{drop}
 use Rattle.registers.specs.Control.{embedded, enable}
 use Rattle.rules.specs.declared.Capture.{Capture}
 use Rattle.rules.specs.declared.Device.{Device}
 use Rattle.rules.specs.State.{fresh-of}
-use Rattle.rules.specs.RegisterCalls.{write, rearm}
+use Rattle.rules.specs.RegisterCalls.{write, placed, rearm}
 use Rattle.rules.specs.Sample.{capture-sample}
 use Rattle.rules.specs.Run.{Packed, step, run-refusal, run, sample}
 
--- A call. The value of a write is a 32-bit number.
+-- A call. The value of a write is a 32-bit number. A placing sets the place of the next word, to one not above landed: what two buffers do between samples (W2); re-arming sets 0.
 pub data Call : Type 0 where
   a-write : (offset value : ℕ) → value < 2 ^ 32 → Call
   a-rearming : Call
+  a-placing : ℕ → Call
   a-run : (memory : List ℕ) (start : ℕ) (samples : List ℕ) → Call
   a-sample : (memory : List ℕ) (start w : ℕ) → Call
 
@@ -25,6 +26,7 @@ pub data Call : Type 0 where
 unfoldable pub after : Device → Call → Device
 after d (a-write offset value fits) = write d offset value .device
 after d a-rearming = rearm d .device
+after d (a-placing k) = cond (ltb (d .core .output .counts .landed) k) d (placed k d)
 after d (a-run memory start samples) = run d memory start samples .device
 after d (a-sample memory start w) = sample d memory start w .device
 
@@ -54,6 +56,7 @@ accepted-samplings d memory start samples = cond (eqb (run-refusal d memory star
 unfoldable pub samplings-of : Device → Call → List Event
 samplings-of d (a-write offset value fits) = []
 samplings-of d a-rearming = []
+samplings-of d (a-placing k) = []
 samplings-of d (a-run memory start samples) = accepted-samplings d memory start samples
 samplings-of d (a-sample memory start w) = accepted-samplings d memory start (w ∷ [])
 

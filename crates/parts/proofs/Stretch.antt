@@ -12,17 +12,17 @@ use borrow.Author.Tests.{eqb-true, ltb-false}
 use Rattle.rules.specs.declared.Device.{Device}
 use Rattle.rules.specs.Run.{RunResult, run}
 use Rattle.sampling.proofs.AcceptedRuns.{accepted-run}
-use Rattle.trace.specs.Format.{header-length, sample-size}
-use Rattle.trace.specs.Reading.{field, version-of, sample-count, sample-start, whole, header-refusal}
+use Rattle.trace_format.specs.Format.{header-length, sample-size}
+use Rattle.trace_format.specs.Reading.{field, version-of, sample-count, sample-start, whole, header-refusal}
 use Rattle.trace.specs.Decoding.{samples-in, how-many}
 use Rattle.trace.proofs.ManySamples.{samples-in-length}
-use Rattle.trace.proofs.Filling.{put-over}
-use Rattle.parts.specs.Parts.{Taken, no-item, wants, take-byte, take-bytes}
+use Rattle.trace_format.proofs.Putting.{put-over}
+use Rattle.parts_rules.specs.Parts.{Taken, no-item, wants, take-byte, take-bytes}
 use Rattle.parts.specs.Forward.{samples-left}
-use Rattle.parts.proofs.Taking.{at, bytes-append, counts}
-use Rattle.parts.proofs.Singles.{by-bool, singles, singles-run}
-use Rattle.parts.proofs.Content.{Passes, some-samples}
-use Rattle.parts.proofs.Header.{wants-within, passes-on}
+use Rattle.parts_rules.proofs.Taking.{at, bytes-append, counts}
+use Rattle.parts_rules.proofs.Singles.{by-bool, singles, singles-run}
+use Rattle.parts_rules.proofs.Content.{Passes, some-samples}
+use Rattle.parts_rules.proofs.Header.{wants-within, passes-on}
 
 pub positive : (n : ℕ) → (n ≡ 0 → ⊥) → 0 < n
 positive zero some = absurd (some refl)

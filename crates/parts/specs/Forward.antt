@@ -3,8 +3,8 @@ use mathlib.Core.Bool.{cond}
 use mathlib.Core.List.{List}
 use Prim.Native.Nat.{ℕ, _-_, _/_, _%_}
 use lib.Dec.{eqb, ltb}
-use Rattle.trace.specs.Format.{sample-size}
-use Rattle.trace.specs.Reading.{sample-start, whole, header-refusal}
+use Rattle.trace_format.specs.Format.{sample-size}
+use Rattle.trace_format.specs.Reading.{sample-start, whole, header-refusal}
 
 unfoldable pub samples-left : List ℕ → ℕ → ℕ
 samples-left head taken =

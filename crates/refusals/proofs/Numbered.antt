@@ -4,7 +4,7 @@ use mathlib.Core.Path.{_≡_, refl}
 use lib.Dec.{eqb}
 use Rattle.refusals.specs.Table.{number}
 use Rattle.refusals.specs.declared.Refusal.{Refusal}
-use Rattle.refusals.specs.declared.Refusal.the-variants.{Malformed, NoRegister, AccessKind, ReservedBit, Unsupported, Enabled, SampleBits, SampleTotal, StartBeyond, Mark, Version, SampleCount, Length, WriteCount, Room, Depth}
+use Rattle.refusals.specs.declared.Refusal.the-variants.{Malformed, NoRegister, AccessKind, ReservedBit, Unsupported, Enabled, SampleBits, SampleTotal, StartBeyond, Mark, Version, SampleCount, Length, WriteCount, Room, BufferMode, Depth}
 
 pub never-zero : (e : Refusal) → eqb (number e) 0 ≡ false
 never-zero Malformed = refl
@@ -22,4 +22,5 @@ never-zero SampleCount = refl
 never-zero Length = refl
 never-zero WriteCount = refl
 never-zero Room = refl
+never-zero BufferMode = refl
 never-zero Depth = refl

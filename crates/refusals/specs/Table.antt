@@ -1,7 +1,7 @@
 -- The refusal numbers (document 01, "Refusal numbers"), each given exactly when its row says.
 use Prim.Native.Nat.{ℕ}
 use Rattle.refusals.specs.declared.Refusal.{Refusal}
-use Rattle.refusals.specs.declared.Refusal.the-variants.{Malformed, NoRegister, AccessKind, ReservedBit, Unsupported, Enabled, SampleBits, SampleTotal, StartBeyond, Mark, Version, SampleCount, Length, WriteCount, Room, Depth}
+use Rattle.refusals.specs.declared.Refusal.the-variants.{Malformed, NoRegister, AccessKind, ReservedBit, Unsupported, Enabled, SampleBits, SampleTotal, StartBeyond, Mark, Version, SampleCount, Length, WriteCount, Room, BufferMode, Depth}
 use Rattle.refusals.specs.declared.Outcome.{Outcome}
 use Rattle.refusals.specs.declared.Outcome.the-variants.{Accepted, Refused}
 
@@ -14,9 +14,9 @@ number NoRegister = 2
 number AccessKind = 3
 -- a reserved bit of the written value is 1
 number ReservedBit = 4
--- CR value with JPEG 1 otherwise than with EDM 0 and CROP 0 (W4), ESS 1, FCRC 3, or CAPTURE 1 and ENABLE 0
+-- CR value with JPEG 1 otherwise than with EDM 0 and CROP 0 (W4), ESS 1 with another EDM or with JPEG 1 (W6), FCRC 3, or CAPTURE 1 and ENABLE 0
 number Unsupported = 5
--- ENABLE is 1 and CWSTRT or CWSIZE is written, or a CR bit other than 0 and 14 would change
+-- ENABLE is 1 and CWSTRT, CWSIZE, ESCR or ESUR (W6) is written, a CR bit other than 0 and 14 would change, or the mode is set (W2)
 number Enabled = 6
 -- a sample has a bit above 17
 number SampleBits = 7
@@ -36,6 +36,8 @@ number Length = 13
 number WriteCount = 14
 -- the writer's output does not fit
 number Room = 15
+-- W2: memories not matching the mode
+number BufferMode = 16
 -- W9: depth 0 or above 32 where a device is made
 number Depth = 18
 

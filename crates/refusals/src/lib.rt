@@ -20,6 +20,7 @@ pub enum Refusal {
     Length,
     WriteCount,
     Room,
+    BufferMode,
     Depth,
 }
 
@@ -44,6 +45,7 @@ impl Refusal {
             Refusal::Length => 13,
             Refusal::WriteCount => 14,
             Refusal::Room => 15,
+            Refusal::BufferMode => 16,
             Refusal::Depth => 18,
         }
     }

@@ -190,9 +190,13 @@ made depth = change (first (bad-depth depth ⇒ 18 ∷ [])) fresh (fresh-of dept
 unfoldable pub interrupt : Device → Answer Bool
 interrupt d = answer (first (malformed d ⇒ 1 ∷ [])) (not (eqb (masked (d .core .capture .registers)) 0))
 
+-- The device with another place for the next word.
+abbrev pub placed : ℕ → Device → Device
+placed k d = device (capture-of d) (record { output = with-place k (d .core .output); slots = d .slots })
+
 -- Re-arming sets the place to 0, and is accepted for every well-formed device. Refusal 1.
 unfoldable pub rearmed : Device → Device
-rearmed d = device (capture-of d) (record { output = with-place 0 (d .core .output); slots = d .slots })
+rearmed d = placed 0 d
 
 unfoldable pub rearm : Device → Changed
 rearm d = change (first (malformed d ⇒ 1 ∷ [])) d (rearmed d)

@@ -66,7 +66,7 @@ fn may_pad(s: Capture, w: u32) -> bool
 }
 
 // The first sample after `first` at which VSYNC has another level, or the end.
-fn level_end(samples: &[u32], first: usize) -> usize
+pub fn level_end(samples: &[u32], first: usize) -> usize
     requires { ⌜ first < length (now samples) ⌝ }
     ensures { λ r. ⌜ r ≡ first + levels.level-run (sample-fields.vsync-pin (getD (now (samples .entry)) first 0)) (drop first (now (samples .entry))) ⌝ }
 {

@@ -24,6 +24,7 @@ mod single;
 
 use crate::coded::coded_steps;
 use crate::jpeg::jpeg_steps;
+pub use crate::jpeg::level_end;
 pub use crate::single::refusal_of;
 pub use crate::single::sample_core;
 use full_word::Packing;
@@ -116,7 +117,7 @@ fn unpadded_steps(
 }
 
 // The samples in order: by codes (W6), with JPEG 1 (W4), or neither.
-fn steps(
+pub fn steps(
     d: Core,
     slots: &mut [u32; SLOTS],
     buffer: &mut [u8],

@@ -1,11 +1,1 @@
-pub mod Fields
-pub mod Filling
-pub mod Form
-pub mod Held
-pub mod Numbers
-pub mod ReadBack
-pub mod Rewritten
-pub mod RoundTrips
 pub mod ManySamples
-pub mod Walk
-pub mod RequestSheet

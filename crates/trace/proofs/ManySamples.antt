@@ -11,11 +11,11 @@ use lib.ListN.{length, getD, set, drop}
 use lib.Seq.{sets, drop-drop}
 use borrow.Author.Tests.{leb-true, leb-false, le-leb, lt-leb}
 use Rattle.samples.specs.Samples.{bad-sample}
-use Rattle.trace.specs.Reading.{field, sample-start, sample-at, samples-from}
+use Rattle.trace_format.specs.Reading.{field, sample-start, sample-at, samples-from}
 use Rattle.trace.specs.Decoding.{samples-in}
-use Rattle.trace.specs.Format.{sample-size}
-use Rattle.trace.proofs.Filling.{sets-append}
-use Rattle.trace.proofs.Fields.{field-suc, field-one}
+use Rattle.trace_format.specs.Format.{sample-size}
+use Rattle.trace_format.proofs.Putting.{sets-append}
+use Rattle.trace_format.proofs.Fields.{field-suc, field-one}
 
 -- A sample's three bytes; a bit above 17 is one of the third byte above its lowest two.
 pub field-three : (f : List ℕ) (at : ℕ) → field f at 3 ≡ getD f at 0 + 256 * getD f (at + 1) 0 + 65536 * getD f (at + 2) 0
@@ -30,10 +30,6 @@ bad-third f at low mid = go (leb 4 (getD f (at + 2) 0)) refl
     go : (b : Bool) → leb 4 (getD f (at + 2) 0) ≡ b → b ≡ leb (2 ^ 18) (field f at 3)
     go true e = sym (le-leb (2 ^ 18) (field f at 3) (omega (arith, field-three f at, leb-true 4 (getD f (at + 2) 0) e)))
     go false e = sym (lt-leb (2 ^ 18) (field f at 3) (omega (arith, field-three f at, leb-false 4 (getD f (at + 2) 0) e)))
-
-pub sample-here : (f : List ℕ) (at k : ℕ) → at ≡ sample-start f k → field f at 3 ≡ sample-at f k
-unfolding sample-at
-sample-here f at k e = rw e
 
 -- What is left from sample k on begins with sample k.
 pub samples-next : (f : List ℕ) (k n : ℕ) → k < n → samples-from f k (n - k) ≡ sample-at f k ∷ samples-from f (k + 1) (n - (k + 1))

@@ -2,8 +2,8 @@
 use mathlib.Core.List.{List, [], _∷_}
 use Prim.Native.Nat.{ℕ, zero, suc, _-_, _/_, min}
 use lib.ListN.{length, drop}
-use Rattle.trace.specs.Format.{sample-size}
-use Rattle.trace.specs.Reading.{field}
+use Rattle.trace_format.specs.Format.{sample-size}
+use Rattle.trace_format.specs.Reading.{field}
 
 -- n samples from the first byte on, whatever their bits.
 unfoldable pub samples-in : ℕ → List ℕ → List ℕ

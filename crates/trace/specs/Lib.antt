@@ -1,5 +1,1 @@
-pub mod Format
-pub mod Reading
 pub mod Decoding
-pub mod Writing
-pub mod Answers

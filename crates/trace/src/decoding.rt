@@ -1,21 +1,40 @@
-// Samples many at a time: those of any bytes into a lent array, and the test of all of a file's. The length that the form checks found, or the slice's, is the one
-// test of the slice; within it bytes are read by plain index.
+// A write or a sample from its bytes. Samples many at a time: those of any bytes into a lent array, and the test of all of a file's; the length that the form
+// checks found, or the slice's, is the one test of the slice, and within it bytes are read by plain index.
 ghost use mathlib.Core.Path.{_≡_};
 ghost use Prim.Native.Nat.{_+_, _*_, _≤_, min};
 ghost use lib.ListN.{length, drop};
 ghost use lib.Seq.{sets};
 ghost use Rattle.refusals.specs.Table.{outcome};
 ghost use Rattle.samples.specs.Samples as samples;
-ghost use Rattle.trace.specs.Format as format;
-ghost use Rattle.trace.specs.Reading as reading;
+ghost use Rattle.trace_format.specs.Format as format;
+ghost use Rattle.trace_format.specs.Reading as reading;
 ghost use Rattle.trace.specs.Decoding as decodings;
-use crate::cursor::SAMPLE_SIZE;
-use crate::cursor::check_form;
-use crate::cursor::sample_count;
-use crate::cursor::samples_start;
-use crate::cursor::wide;
+use crate::form::check_form;
+use crate::form::sample_count;
+use crate::form::samples_start;
 use refusals::Outcome;
 use refusals::Refusal;
+use trace_format::SAMPLE_SIZE;
+use trace_format::Write;
+use trace_format::four;
+use trace_format::one;
+use trace_format::three;
+use trace_format::wide;
+
+// The write, and the sample, that the bytes of an item are.
+pub fn write_in(item: &[u8]) -> Write
+    ensures { λ r. ⌜ (r .offset ≡ reading.field (now (item .entry)) 0 1) × (r .value ≡ reading.field (now (item .entry)) 1 4) ⌝ }
+{
+    let offset = one(item, 0);
+    let value = four(item, 1);
+    Write { offset, value }
+}
+
+pub fn sample_in(item: &[u8]) -> u32
+    ensures { λ r. ⌜ r ≡ reading.field (now (item .entry)) 0 format.sample-size ⌝ }
+{
+    three(item, 0)
+}
 
 // The sample at a byte, and whether it has a bit above 17.
 fn sample_at(file: &[u8], at: usize) -> u32

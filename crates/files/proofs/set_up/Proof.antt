@@ -4,8 +4,8 @@ use borrow.Author.Needs.{needs}
 use mathlib.Core.Path.{sym, ap, _∙_}
 use native.Mathlib.Omega.{arith}
 use Rattle.refusals.proofs.Numbered.{never-zero}
-use Rattle.trace.specs.Answers.{item}
-use Rattle.trace.specs.Reading as reading
+use Rattle.trace_reader.specs.Answers.{item}
+use Rattle.trace_format.specs.Reading as reading
 use Rattle.files.proofs.Items.{a-write}
 use Rattle.files.proofs.SettingUp.{Setting, starting, setting-keeps, setting-on, setting-refused, setting-end}
 use Rattle.files.proofs.set_up.Statement.{statement}

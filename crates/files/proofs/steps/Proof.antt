@@ -5,7 +5,7 @@ use denote.Ref.{now}
 use mathlib.Core.Path.{_≡_, refl, sym}
 use native.Mathlib.Omega.{arith}
 use lib.Seq.{length-take-le}
-use Rattle.trace.specs.Reading.{sample-count, sample-start}
+use Rattle.trace_format.specs.Reading.{sample-count, sample-start}
 use Rattle.files.proofs.Samples.{Stepping, stepping-start, some, stepping-room, stepping-asks, stepping-on, stepping-end}
 use Rattle.files.proofs.steps.Statement.{statement}
 use Rattle.files.proofs.steps.Tie as tie

@@ -7,8 +7,9 @@ use mathlib.Core.Path.{_≡_, sym, ap, _∙_}
 use native.Mathlib.Omega.{arith}
 use Rattle.bits.proofs.Booleans.{or-unit, or-true}
 use Rattle.samples.specs.Samples.{bad-sample, any-bad}
-use Rattle.trace.specs.Reading.{sample-count, samples-from, samples-of}
-use Rattle.trace.proofs.ManySamples.{sample-here, samples-next, samples-over}
+use Rattle.trace_format.specs.Reading.{sample-count, samples-from, samples-of}
+use Rattle.trace_format.proofs.Walk.{sample-here}
+use Rattle.trace.proofs.ManySamples.{samples-next, samples-over}
 use Rattle.trace.proofs.decoding.any_bad.Statement.{statement}
 use Rattle.trace.proofs.decoding.any_bad.Tie as tie
 

@@ -3,8 +3,8 @@ use borrow.Author.Needs.{needs}
 use mathlib.Core.Path.{sym, ap, _∙_}
 use Rattle.refusals.proofs.Numbered.{never-zero}
 use Rattle.refusals.specs.Table.{outcome}
-use Rattle.trace.specs.Reading.{file-refusal}
-use Rattle.trace.proofs.Form.{formed}
+use Rattle.trace_format.specs.Reading.{file-refusal}
+use Rattle.trace_format.proofs.Form.{formed}
 use Rattle.trace.proofs.decoding.check_file.Statement.{statement}
 use Rattle.trace.proofs.decoding.check_file.Tie as tie
 

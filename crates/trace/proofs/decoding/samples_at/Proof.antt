@@ -4,7 +4,7 @@ use lib.ListN.{length}
 use mathlib.Core.Path.{_≡_, sym}
 use native.Mathlib.Omega.{arith}
 use Prim.Native.Nat.{_-_, _/_, min}
-use Rattle.trace.specs.Format.{sample-size}
+use Rattle.trace_format.specs.Format.{sample-size}
 use Rattle.trace.specs.Decoding.{samples-in, how-many}
 use Rattle.trace.proofs.decoding.samples_at.Statement.{statement}
 use Rattle.trace.proofs.decoding.samples_at.Tie as tie

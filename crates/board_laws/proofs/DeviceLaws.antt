@@ -1,0 +1,79 @@
+-- The laws of devices over lists of calls hold of boards, over one memory or two (W2): the counts and held are those of the history, the depth stays, `window-ended` is what the
+-- history says, FRAME is due once, ERR rises where the rules say so, and in an open frame VSYNC does not blank.
+-- The idea: for the device a board's calls are calls of its own (`by-device`). Assumes nothing.
+use mathlib.Core.Bool.{Bool, true, false, _&&_}
+use mathlib.Core.List.{List}
+use mathlib.Core.Option.{Option}
+use mathlib.Core.Path.{_≡_}
+use Prim.Native.Nat.{ℕ, _≤_}
+use Rattle.bits.specs.Bits.{bit}
+use Rattle.registers.specs.Control.{embedded}
+use Rattle.codes.specs.declared.Meaning.the-variants.{FrameEnd}
+use Rattle.codes.specs.Bytes.{is-code}
+use Rattle.codes.specs.Meaning.{meaning}
+use Rattle.output.specs.WellFormed.{bad-depth}
+use Rattle.rules.specs.declared.Scan.{Scan}
+use Rattle.rules.specs.declared.Frame.the-variants.{Open}
+use Rattle.rules.specs.Capture.{working-edge, enabled, blanking, window-ended}
+use Rattle.rules.specs.Sample.{byte-of}
+use Rattle.rules.specs.Run.{Packed}
+use Rattle.laws.specs.Histories.{sampled, no-errors, without-codes}
+use Rattle.laws.specs.Ledger.{ledger, numbers}
+use Rattle.laws.specs.FrameHistory.{frame-entry, frame-history}
+use Rattle.laws.specs.Seeking.{Runs}
+use Rattle.laws.proofs.CountsFromHistory as counts
+use Rattle.laws.proofs.Depth as depths
+use Rattle.laws.proofs.FrameHistory as frames
+use Rattle.laws.proofs.Flags as flags
+use Rattle.laws.proofs.OpenFrames as open-frames
+use Rattle.board_laws.specs.BoardHistories.{Call, reached, history, events}
+use Rattle.board_laws.proofs.AsDevice.{by-device}
+
+-- From a board made with a depth from 1 to 32.
+module _ (depth : ℕ) (sound : bad-depth depth ≡ false) (cs : List Call) where
+  pub counts-from-history : ledger (events (history depth cs)) ≡ numbers (reached depth cs .device .core .output)
+  counts-from-history = by-device (λ d es. ledger es ≡ numbers (d .core .output)) depth sound (counts.counts-from-history depth) cs
+
+  pub depth-stays : reached depth cs .device .core .output .depth ≡ depth
+  depth-stays = by-device (λ d es. d .core .output .depth ≡ depth) depth sound (depths.depth-stays depth) cs
+
+  -- FRAME.
+  pub window-ended-is-history : (taken : Bool) (f : Scan) → reached depth cs .device .core .capture .frame ≡ Open taken f
+      → window-ended (reached depth cs .device .core .capture) f ≡ frame-history (events (history depth cs)) .ended
+  window-ended-is-history taken f =
+      by-device (λ d es. d .core .capture .frame ≡ Open taken f → window-ended (d .core .capture) f ≡ frame-history es .ended) depth sound
+      (λ ds. frames.window-ended-is-history depth sound ds taken f)
+      cs
+
+  pub frame-due-once : frame-history (events (history depth cs)) .due ≤ 1
+  frame-due-once = by-device (λ d es. frame-history es .due ≤ 1) depth sound (frames.frame-due-once depth sound) cs
+
+  pub frame-due-at-the-end : (f : Scan) (w : ℕ) (landing : Option ℕ) (packed : Packed)
+      → let s = reached depth cs .device .core .capture in embedded (s .registers .cr) ≡ false → s .frame ≡ Open true f → working-edge s w && enabled s ≡ true → blanking s w .vsync ≡ true
+      → frame-entry (frame-history (events (history depth cs))) (sampled s w landing packed) .due ≡ 1
+  frame-due-at-the-end f w landing packed =
+      by-device
+      (λ d es. let s = d .core .capture in embedded (s .registers .cr) ≡ false → s .frame ≡ Open true f → working-edge s w && enabled s ≡ true → blanking s w .vsync ≡ true
+      → frame-entry (frame-history es) (sampled s w landing packed) .due ≡ 1)
+      depth sound (λ ds. frames.frame-due-at-the-end depth sound ds f w landing packed) cs
+
+  pub frame-due-at-the-end-code : (f : Scan) (w : ℕ) (landing : Option ℕ) (packed : Packed)
+      → let s = reached depth cs .device .core .capture in embedded (s .registers .cr) ≡ true → s .frame ≡ Open true f → working-edge s w && enabled s ≡ true
+      → is-code (s .waiting) ≡ true → meaning (s .registers .escr) (s .registers .esur) (byte-of w) ≡ FrameEnd
+      → frame-entry (frame-history (events (history depth cs))) (sampled s w landing packed) .due ≡ 1
+  frame-due-at-the-end-code f w landing packed =
+      by-device
+      (λ d es. let s = d .core .capture in embedded (s .registers .cr) ≡ true → s .frame ≡ Open true f → working-edge s w && enabled s ≡ true
+      → is-code (s .waiting) ≡ true → meaning (s .registers .escr) (s .registers .esur) (byte-of w) ≡ FrameEnd
+      → frame-entry (frame-history es) (sampled s w landing packed) .due ≡ 1)
+      depth sound (λ ds. frames.frame-due-at-the-end-code depth sound ds f w landing packed) cs
+
+  -- ERR, and open frames.
+  pub error-never-rises : no-errors (events (history depth cs)) ≡ true → bit 2 (reached depth cs .device .core .capture .registers .ris) ≡ false
+  error-never-rises = by-device (λ d es. no-errors es ≡ true → bit 2 (d .core .capture .registers .ris) ≡ false) depth sound (flags.error-never-rises depth) cs
+
+  pub no-error-without-codes : without-codes (events (history depth cs)) ≡ true → bit 2 (reached depth cs .device .core .capture .registers .ris) ≡ false
+  no-error-without-codes = by-device (λ d es. without-codes es ≡ true → bit 2 (d .core .capture .registers .ris) ≡ false) depth sound (flags.no-error-without-codes depth) cs
+
+  pub open-frame-runs : Runs (reached depth cs .device .core .capture)
+  open-frame-runs = by-device (λ d es. Runs (d .core .capture)) depth sound (open-frames.open-frame-runs depth) cs

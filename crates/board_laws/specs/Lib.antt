@@ -1,0 +1,2 @@
+pub mod BoardHistories
+pub mod BoardBefore

@@ -1,0 +1,13 @@
+-- `trace_format::bytes::byte` meets its contract.
+use borrow.Author.Needs.{needs}
+use denote.Ref.{now}
+use lib.ListN.{List·getD-eq-default}
+use mathlib.Core.Path.{sym}
+use Rattle.trace_format.proofs.bytes.byte.Statement.{statement}
+use Rattle.trace_format.proofs.bytes.byte.Tie as tie
+
+returns-2 : tie.Need-returns-2
+returns-2 c = sym (List·getD-eq-default (now (c .before .args .file)) 0 (c .if1 .left))
+
+pub byte-spec : {M : Type 1} → statement M
+byte-spec = tie.close (tie.spec (λ c. search needs) (λ c. search needs) returns-2)

@@ -1,0 +1,11 @@
+pub mod Closing
+pub mod OneStep
+pub mod Tagging
+pub mod Alone
+pub mod Calm
+pub mod Doing
+pub mod Idle
+pub mod Counted
+pub mod RunningOn
+pub mod Stretching
+pub mod Turning

@@ -1,0 +1,131 @@
+-- Stretches as the code finds and runs them: what the calls in `run_on` ask and that its answer is the rules' (`stretch-run`), and that the samples up to `stretch-end` are a stretch
+-- (`stretch-to`). Assumes nothing.
+use mathlib.Core.Bool.{Bool, true, false, not, _&&_, Bool·beq, false≢true}
+use mathlib.Core.List.{List, [], _∷_}
+use mathlib.Core.Path.{_≡_, refl, sym, ap, _∙_}
+use Prim.Native.Nat.{ℕ, suc, _+_, _-_, _≤_, _<_}
+use native.Mathlib.Omega.{arith}
+use lib.Dec.{eqb, ltb}
+use lib.ListN.{length, getD, take, drop, length-drop}
+use borrow.Author.Tests.{eqb-true, not-true}
+use Rattle.bits.proofs.Booleans.{and-true, by-cond, either}
+use Rattle.registers.specs.Control.{embedded, vspol}
+use Rattle.samples.specs.Samples.{vsync-pin}
+use Rattle.buffers.specs.declared.Buffer.{Buffer}
+use Rattle.buffers.specs.declared.Buffer.the-variants.{A, B}
+use Rattle.buffers.specs.declared.Turns.{Turns}
+use Rattle.buffers.specs.Turns.{next-place}
+use Rattle.output.specs.WellFormed.{Laid}
+use Rattle.rules.specs.declared.Core.{Core}
+use Rattle.rules.specs.declared.Device.{Device}
+use Rattle.rules.specs.State.{output-of, is-open}
+use Rattle.rules.specs.RegisterCalls as register-rules
+use Rattle.rules.specs.Run.{step, Ran, steps}
+use Rattle.rules.proofs.WellFormed.{WellFormed}
+use Rattle.laws.proofs.KeepsSample.{step-laid}
+use Rattle.board_rules.specs.TwoBuffers.{Pair, part, with-part, Two, two-steps}
+use Rattle.board_rules.proofs.WellFormed.{TurnsOk}
+use Rattle.laws.proofs.KeepsWrites.{placed-ok}
+use Rattle.sampling.specs.Levels.{level-run}
+use Rattle.sampling.specs.Notes.{Noted, noted-steps}
+use Rattle.sampling.specs.Answers.{noted}
+use Rattle.sampling.proofs.Noted.{same-run}
+use Rattle.sampling.proofs.Stretches.{run-within}
+use Rattle.two_buffers.specs.Answers.{placed}
+use Rattle.two_buffers.specs.Stretches.{next-buffer, alone, first-opens, first-place, place-a, turns-after, All-blank, RunsOn, goes-on, stretch-end}
+use Rattle.two_buffers.proofs.OneStep.{placed-laid}
+use Rattle.two_buffers.proofs.RunningOn.{run-on, runs-on}
+
+-- The FIFO stays laid out.
+steps-laid : (d : Device) (b ws : List ℕ) → Laid (output-of d) → Laid (output-of (steps d b ws .device))
+unfolding steps
+steps-laid d b [] laid = laid
+steps-laid d b (w ∷ ws) laid = steps-laid (step d b w .device) (step d b w .buffer) ws (step-laid d b w laid)
+
+-- The place of the first word is at most landed.
+first-low : (held a n : ℕ) (t : Turns) → a ≤ n → t .place ≤ n → first-place held a t ≤ n
+unfolding first-place
+first-low held a n t la lb = either (λ (k : ℕ). k ≤ n) (first-opens held t) (omega arith) (go (next-buffer t))
+  where
+    go : (u : Buffer) → next-place a u t ≤ n
+    go A = la
+    go B = lb
+
+-- What the run asks, and what it leaves.
+module _ (x : Two) (well : WellFormed (x .device)) (turns : TurnsOk (x .device .core .output) (x .turns)) (laid : Laid (output-of (x .device))) where
+  abbrev from : Device
+  from = register-rules.placed (first-place (x .device .core .output .held) (x .device .core .output .place) (x .turns)) (x .device)
+
+  pub run-well : WellFormed from
+  run-well = placed-ok _ (x .device) (first-low (x .device .core .output .held) (x .device .core .output .place) _ (x .turns) (well .output .place) (turns .place)) well
+
+  pub run-laid : Laid (output-of from)
+  run-laid = placed-laid _ (x .device) laid
+
+  module _ (ws : List ℕ) {u : Buffer} {place : ℕ} {first : Core} (l v : List ℕ) (n : Noted) (eu : u ≡ next-buffer (x .turns))
+      (ep : place ≡ first-place (x .device .core .output .held) (x .device .core .output .place) (x .turns)) (ef : first ≡ placed place (x .device .core))
+      (en : n ≡ noted-steps (noted first (x .device .slots) (part u (x .buffers)) l v) ws) where
+    ran : _≡_ {A = Ran} (record { device = n .device; buffer = n .buffer }) (steps from (part (next-buffer (x .turns)) (x .buffers)) ws)
+    unfolding placed
+    ran = ap (λ (m : Noted). record { device = m .device; buffer = m .buffer }) (rw (ef, ep, eu) at en) ∙ same-run _ ws
+
+    pub run-held : n .device .core .output .held ≤ 32
+    run-held =
+        let after = steps-laid from (part (next-buffer (x .turns)) (x .buffers)) ws run-laid in
+        rw (ap (λ (r : Ran). r .device) ran) (omega (arith, after .fits, after .within))
+
+    pub stretch-run : {t : Turns} {a : ℕ} (m : Pair) → (is : RunsOn (x .device .core) (x .turns) ws) → m ≡ with-part u (n .buffer) (x .buffers)
+        → t ≡ turns-after (x .turns) (x .device .core .output .held) (x .device .core .output .counts) (n .device .core .output)
+        → a ≡ place-a u (ltb (x .device .core .output .counts .landed) (n .device .core .output .counts .landed)) (n .device .core .output .place) (x .device .core .output .place)
+        → _≡_ {A = Two} (record { device = register-rules.placed a (n .device); turns = t; buffers = m }) (two-steps x ws)
+    stretch-run m is em et ea =
+        rw (em, et, ea, eu) (ap (λ (r : Ran). run-on x (is .alone) r) ran ∙ sym (runs-on x (is .alone) turns ws is))
+
+-- Samples up to where VSYNC changes its level.
+same-bool : (a b : Bool) → Bool·beq a b ≡ true → a ≡ b
+same-bool true true e = refl
+same-bool true false e = absurd (false≢true e)
+same-bool false true e = absurd (false≢true e)
+same-bool false false e = refl
+
+level-blanks : (level polarity : Bool) (ws : List ℕ) → All-blank (Bool·beq level polarity) polarity (take (level-run level ws) ws)
+unfolding level-run All-blank
+level-blanks level polarity [] = tt
+level-blanks level polarity (w ∷ ws) =
+    by-cond (λ (n : ℕ). All-blank (Bool·beq level polarity) polarity (take n (w ∷ ws))) (Bool·beq (vsync-pin w) level) (suc (level-run level ws)) 0
+    (λ e. (ap (λ (b : Bool). Bool·beq b polarity) (same-bool (vsync-pin w) level e), level-blanks level polarity ws))
+    (λ e. tt)
+
+idle-of : (blank in-frame : Bool) (held : ℕ) → goes-on blank in-frame held ≡ true → blank ≡ true → (in-frame ≡ false) × (held ≡ 0)
+unfolding goes-on
+idle-of true in-frame held e is = let (closed, empty) = and-true (not in-frame) (eqb held 0) e in (not-true _ closed, eqb-true _ _ empty)
+idle-of false in-frame held e is = absurd (false≢true is)
+
+-- They are a stretch.
+pub record Stretch (c : Core) (t : Turns) (samples : List ℕ) (i k : ℕ) : Type 0 where
+  pub inside : k ≤ length samples
+  pub runs : RunsOn c t (take (k - i) (drop i samples))
+
+stretch-on : (c : Core) (t : Turns) (samples : List ℕ) (i : ℕ) → i < length samples → i < stretch-end c t samples i → Stretch c t samples i (stretch-end c t samples i)
+unfolding stretch-end
+stretch-on c t samples i within =
+    let cr = c .capture .registers .cr in
+    let level = vsync-pin (getD samples i 0) in
+    let held = c .output .held in
+    let P : ℕ → Type 0 = λ k. i < k → Stretch c t samples i k in
+    by-cond P (embedded cr) _ _ (λ e less. absurd (omega arith))
+    (λ plain.
+    by-cond P (alone held t && goes-on (Bool·beq level (vspol cr)) (is-open (c .capture .frame)) held) _ _
+    (λ e less.
+    let (single, on) = and-true (alone held t) _ e in
+    let so-many : i + level-run level (drop i samples) - i ≡ level-run level (drop i samples) = omega arith in
+    record {
+      inside = omega (arith, rw length-drop at (run-within level (drop i samples)));
+      runs =
+          rw so-many
+          (record { by-pins = plain; alone = single; blank = Bool·beq level (vspol cr); levels = level-blanks level (vspol cr) (drop i samples); idle = idle-of (Bool·beq level (vspol cr)) (is-open (c .capture .frame)) held on });
+    })
+    (λ e less. absurd (omega arith)))
+
+pub stretch-to : {c : Core} {t : Turns} {samples : List ℕ} {i k : ℕ} → k ≡ stretch-end c t samples i → i < length samples → i < k → Stretch c t samples i k
+stretch-to {c} {t} {samples} {i} e within less = rw e (stretch-on c t samples i within (rw e at less))

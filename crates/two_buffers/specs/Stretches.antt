@@ -1,0 +1,106 @@
+-- Stretches of samples with two frame buffers that run as with one: the turns before and after them. No contract of a call that users make cites them.
+use mathlib.Core.Bool.{Bool, true, false, cond, not, _&&_, _||_, Bool·beq}
+use mathlib.Core.List.{List, [], _∷_}
+use mathlib.Core.Path.{_≡_}
+use Prim.Native.Nat.{ℕ, _+_, _-_, _^_}
+use lib.Dec.{eqb, ltb, leb}
+use lib.ListN.{getD, drop}
+use Rattle.registers.specs.Control.{embedded, vspol}
+use Rattle.samples.specs.Samples.{vsync-pin}
+use Rattle.buffers.specs.declared.Buffer.{Buffer}
+use Rattle.buffers.specs.declared.Buffer.the-variants.{A, B}
+use Rattle.buffers.specs.declared.Content.the-variants.{Landing}
+use Rattle.buffers.specs.declared.Turns.{Turns}
+use Rattle.buffers.specs.Turns.{other, with-tags, with-place-b, with-content, first-word, discarded, oldest-opens, next-place}
+use Rattle.output.specs.declared.Counts.{Counts}
+use Rattle.output.specs.declared.Output.{Output}
+use Rattle.rules.specs.declared.Core.{Core}
+use Rattle.rules.specs.State.{is-open}
+use Rattle.sampling.specs.Levels.{level-run}
+
+-- The tags of so many held words that all go to one buffer.
+unfoldable pub tags-in : Buffer → ℕ → ℕ
+tags-in A held = 0
+tags-in B held = 2 ^ held - 1
+
+-- The buffer of the words that come next; all held words are of it, and the oldest alone may open a frame.
+unfoldable pub next-buffer : Turns → Buffer
+next-buffer t = cond (t .begun) (t .turn) (other (t .turn))
+
+unfoldable pub alone : ℕ → Turns → Bool
+alone held t = eqb held 0 || (t .begun && (eqb (t .«in_b») (tags-in (t .turn) held) && leb (t .opening) 1))
+
+-- Whether the first of the held words and those that come opens a frame, and the place at which it lands.
+unfoldable pub first-opens : ℕ → Turns → Bool
+first-opens held t = cond (eqb held 0) (not (t .begun)) (oldest-opens t)
+
+unfoldable pub first-place : ℕ → ℕ → Turns → ℕ
+first-place held place-a t = cond (first-opens held t) 0 (next-place place-a (next-buffer t) t)
+
+-- The tag of the first of them, held; and the places once words have landed.
+unfoldable pub opening-in : Bool → ℕ → ℕ
+opening-in opens held = cond opens (cond (ltb 0 held) 1 0) 0
+
+unfoldable pub place-b : Buffer → Bool → ℕ → Turns → Turns
+place-b A landed place t = t
+place-b B landed place t = cond landed (with-place-b place t) t
+
+unfoldable pub place-a : Buffer → Bool → ℕ → ℕ → ℕ
+place-a A landed place before = cond landed place before
+place-a B landed place before = before
+
+-- What a stretch has done: whether a word was completed, landed, or lost; the number of held words and the place of the next one. By the counts before and after it.
+pub record Done : Type 0 where
+  pub completed : Bool
+  pub landed : Bool
+  pub lost : Bool
+  pub held : ℕ
+  pub place : ℕ
+
+abbrev pub done : Counts → Output → Done
+done before after =
+    record {
+      completed = ltb (before .completed) (after .counts .completed);
+      landed = ltb (before .landed) (after .counts .landed);
+      lost = ltb (before .discarded) (after .counts .discarded);
+      held = after .held;
+      place = after .place;
+    }
+
+-- The turns after it.
+unfoldable pub turns-by : Buffer → Bool → Turns → Done → Turns
+turns-by u opens t m =
+    let s = cond (m .completed) (first-word t) t in
+    let k = cond (opens && m .landed) (with-content u Landing s) s in
+    place-b u (m .landed) (m .place)
+    (cond (m .lost) (discarded k) (with-tags (tags-in u (m .held)) (opening-in (opens && not (m .landed)) (m .held)) k))
+
+unfoldable pub turns-after : Turns → ℕ → Counts → Output → Turns
+turns-after t held before after = turns-by (next-buffer t) (first-opens held t) t (done before after)
+
+-- VSYNC's level at some samples: it blanks at all, or at none.
+unfoldable pub All-blank : Bool → Bool → List ℕ → Type 0
+All-blank blank polarity [] = Unit {0}
+All-blank blank polarity (w ∷ ws) = (Bool·beq (vsync-pin w) polarity ≡ blank) × All-blank blank polarity ws
+
+-- Samples that are a stretch.
+pub record RunsOn (c : Core) (t : Turns) (ws : List ℕ) : Type 0 where
+  pub by-pins : embedded (c .capture .registers .cr) ≡ false
+  pub alone : alone (c .output .held) t ≡ true
+  pub blank : Bool
+  pub levels : All-blank blank (vspol (c .capture .registers .cr)) ws
+  pub idle : blank ≡ true → (is-open (c .capture .frame) ≡ false) × (c .output .held ≡ 0)
+
+-- How far they reach.
+unfoldable pub goes-on : Bool → Bool → ℕ → Bool
+goes-on blank in-frame held = not blank || (not in-frame && eqb held 0)
+
+unfoldable pub stretch-end : Core → Turns → List ℕ → ℕ → ℕ
+stretch-end c t samples first =
+    let cr = c .capture .registers .cr in
+    let level = vsync-pin (getD samples first 0) in
+    cond (embedded cr)
+    first
+    (cond (alone (c .output .held) t && goes-on (Bool·beq level (vspol cr)) (is-open (c .capture .frame)) (c .output .held))
+    (first + level-run level (drop first samples))
+    first)

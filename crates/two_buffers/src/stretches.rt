@@ -1,0 +1,269 @@
+// Samples by stretches (docs/SPEED.md): while VSYNC keeps a level that does not blank, at most one frame completes words, and no frame ends; if all held words are of the buffer where its words
+// go, the samples are run over that buffer as with one, and the turns follow from the counts. So are those of vertical blanking with no frame open and no word held.
+ghost use mathlib.Core.Bool.{cond, not, _&&_};
+ghost use mathlib.Core.Path.{_≡_};
+ghost use Prim.Native.Nat.{_+_, _≤_, _<_, _^_};
+ghost use lib.ListN.{length};
+ghost use Rattle.buffers.specs.declared.Content.the-variants.{Landing};
+ghost use Rattle.buffers.specs.Turns as turn-rules;
+ghost use Rattle.output.specs.Answers as output-answers;
+ghost use Rattle.output.specs.WellFormed.{Laid};
+ghost use Rattle.rules.proofs.WellFormed.{WellFormed};
+ghost use Rattle.full_word.specs.Answers as word-answers;
+ghost use Rattle.board_rules.specs.TwoBuffers as buffer-rules;
+ghost use Rattle.board_rules.proofs.WellFormed.{TurnsOk};
+ghost use Rattle.two_buffers.specs.Answers as two-answers;
+ghost use Rattle.two_buffers.specs.Stretches as stretch-rules;
+use crate::Turned;
+use crate::placed;
+use crate::steps_in;
+use buffers::Buffer;
+use buffers::Content;
+use buffers::Turns;
+use buffers::discarded;
+use buffers::first_word;
+use buffers::oldest_opens;
+use buffers::other;
+use buffers::with_content;
+use buffers::with_tags;
+use capture::syncs::blanks;
+use output::Counts;
+use output::Output;
+use output::SLOTS;
+use registers::control;
+use rules::Core;
+use samples::vsync_pin;
+use sampling::level_end;
+use well_formed::is_open;
+
+// The tags of so many held words that all go to one buffer.
+fn tags_in(u: Buffer, held: u32) -> u32
+    requires { ⌜ held ≤ 32 ⌝ }
+    ensures { λ r. ⌜ r ≡ stretch-rules.tags-in u held ⌝ }
+{
+    match u {
+        Buffer::A => 0,
+        Buffer::B => ((1u64 << held) - 1) as u32,
+    }
+}
+
+// The buffer of the words that come next.
+fn next_buffer(t: Turns) -> Buffer
+    ensures { λ r. ⌜ r ≡ stretch-rules.next-buffer t ⌝ }
+{
+    let turn = t.turn;
+    if t.begun {
+        return turn;
+    }
+    other(turn)
+}
+
+// All held words are of that buffer, one after the other, and the oldest alone may open a frame.
+fn alone(held: u32, t: Turns) -> bool
+    requires { ⌜ held ≤ 32 ⌝ }
+    ensures { λ r. ⌜ r ≡ stretch-rules.alone held t ⌝ }
+{
+    if held == 0 {
+        return true;
+    }
+    if t.begun {
+        let turn = t.turn;
+        if t.in_b == tags_in(turn, held) {
+            return t.opening <= 1;
+        }
+    }
+    false
+}
+
+// Whether the first of the held words and those that come opens a frame; and the place where it lands.
+fn first_opens(held: u32, t: Turns) -> bool
+    ensures { λ r. ⌜ r ≡ stretch-rules.first-opens held t ⌝ }
+{
+    if held == 0 {
+        return !t.begun;
+    }
+    oldest_opens(t)
+}
+
+fn first_place(held: u32, place_a: u32, t: Turns) -> u32
+    ensures { λ r. ⌜ r ≡ stretch-rules.first-place held «place_a» t ⌝ }
+{
+    let u = next_buffer(t);
+    if first_opens(held, t) {
+        return 0;
+    }
+    match u {
+        Buffer::A => place_a,
+        Buffer::B => t.place,
+    }
+}
+
+// A frame's first word switches, where a word was completed.
+fn switched(completed: bool, t: Turns) -> Turns
+    ensures { λ r. ⌜ r ≡ cond completed (turn-rules.first-word t) t ⌝ }
+{
+    if completed {
+        return first_word(t);
+    }
+    t
+}
+
+// A frame's first word has landed.
+fn opened_in(landed: bool, u: Buffer, t: Turns) -> Turns
+    ensures { λ r. ⌜ r ≡ cond landed (turn-rules.with-content u Landing t) t ⌝ }
+{
+    if landed {
+        return with_content(u, Content::Landing, t);
+    }
+    t
+}
+
+// The tags of the words that are held then.
+fn opening_in(opens: bool, held: u32) -> u32
+    ensures { λ r. ⌜ r ≡ stretch-rules.opening-in opens held ⌝ }
+{
+    if opens {
+        if 0 < held {
+            return 1;
+        }
+    }
+    0
+}
+
+fn tagged(lost: bool, u: Buffer, opens: bool, held: u32, t: Turns) -> Turns
+    requires { ⌜ held ≤ 32 ⌝ }
+    ensures { λ r. ⌜ r ≡ cond lost (turn-rules.discarded t) (turn-rules.with-tags (stretch-rules.tags-in u held) (stretch-rules.opening-in opens held) t) ⌝ }
+{
+    if lost {
+        return discarded(t);
+    }
+    with_tags(tags_in(u, held), opening_in(opens, held), t)
+}
+
+// B's place, and A's, once words have landed in one of them.
+fn place_b(u: Buffer, landed: bool, place: u32, t: Turns) -> Turns
+    ensures { λ r. ⌜ r ≡ stretch-rules.place-b u landed place t ⌝ }
+{
+    let mut after = t;
+    match u {
+        Buffer::A => after,
+        Buffer::B => {
+            if landed {
+                after.place = place;
+                return after;
+            }
+            after
+        }
+    }
+}
+
+fn place_a(u: Buffer, landed: bool, place: u32, before: u32) -> u32
+    ensures { λ r. ⌜ r ≡ stretch-rules.place-a u landed place before ⌝ }
+{
+    match u {
+        Buffer::A => {
+            if landed {
+                return place;
+            }
+            before
+        }
+        Buffer::B => before,
+    }
+}
+
+// The first word opens a frame and has landed; or has not.
+fn opened(opens: bool, landed: bool) -> bool
+    ensures { λ r. ⌜ r ≡ (opens && landed) ⌝ }
+{
+    opens && landed
+}
+
+fn waiting(opens: bool, landed: bool) -> bool
+    ensures { λ r. ⌜ r ≡ (opens && not landed) ⌝ }
+{
+    opens && !landed
+}
+
+// The turns after a stretch, by the counts before and after it.
+fn turns_after(t: Turns, held: u32, before: Counts, after: Output) -> Turns
+    requires { ⌜ after .held ≤ 32 ⌝ }
+    ensures { λ r. ⌜ r ≡ stretch-rules.turns-after t held before after ⌝ }
+{
+    let u = next_buffer(t);
+    let landed = before.landed < after.counts.landed;
+    let opens = first_opens(held, t);
+    let s = switched(before.completed < after.counts.completed, t);
+    let k = opened_in(opened(opens, landed), u, s);
+    let lost = before.discarded < after.counts.discarded;
+    let m = tagged(lost, u, waiting(opens, landed), after.held, k);
+    place_b(u, landed, after.place, m)
+}
+
+// A stretch over one buffer.
+pub fn run_on(
+    d: Turned,
+    slots: &mut [u32; SLOTS],
+    a: &mut [u8],
+    b: &mut [u8],
+    samples: &[u32],
+) -> Turned
+    requires { ⌜ WellFormed (word-answers.device (d .core) (now slots)) ⌝ }
+    requires { ⌜ TurnsOk (d .core .output) (d .turns) ⌝ }
+    requires { ⌜ Laid (output-answers.left (d .core .output) (now slots)) ⌝ }
+    requires { ⌜ d .core .output .counts .samples + length (now samples) < 2 ^ 32 ⌝ }
+    requires { ⌜ stretch-rules.RunsOn (d .core) (d .turns) (now samples) ⌝ }
+    ensures { λ r. ⌜ two-answers.two r (now (slots .exit)) (now (a .exit)) (now (b .exit)) ≡ buffer-rules.two-steps (two-answers.two d (now (slots .entry)) (now (a .entry)) (now (b .entry))) (now (samples .entry)) ⌝ }
+{
+    let t = d.turns;
+    let o = d.core.output;
+    let u = next_buffer(t);
+    let core = placed(first_place(o.held, o.place, t), d.core);
+    let mut landings = [0; 2];
+    let mut words = [0; 2];
+    let core = steps_in(u, core, slots, a, b, &mut landings, &mut words, samples);
+    let after = core.output;
+    let landed = o.counts.landed < after.counts.landed;
+    let turns = turns_after(t, o.held, o.counts, after);
+    let place = place_a(u, landed, after.place, o.place);
+    Turned {
+        core: placed(place, core),
+        turns,
+    }
+}
+
+// Vertical blanking with no frame open and no word held, or no vertical blanking.
+fn goes_on(blank: bool, in_frame: bool, held: u32) -> bool
+    ensures { λ r. ⌜ r ≡ stretch-rules.goes-on blank «in_frame» held ⌝ }
+{
+    if blank {
+        if in_frame {
+            return false;
+        }
+        return held == 0;
+    }
+    true
+}
+
+// How far the samples from `first` on are one stretch; `first` where they begin none.
+pub fn stretch_end(core: Core, t: Turns, samples: &[u32], first: usize) -> usize
+    requires { ⌜ (core .output .held ≤ 32) × (first < length (now samples)) ⌝ }
+    ensures { λ r. ⌜ r ≡ stretch-rules.stretch-end core t (now (samples .entry)) first ⌝ }
+{
+    let s = core.capture;
+    let cr = s.registers.cr;
+    let frame = s.frame;
+    let w = samples[first];
+    if control::embedded(cr) {
+        return first;
+    }
+    if alone(core.output.held, t) {
+        if goes_on(
+            blanks(vsync_pin(w), control::vspol(cr)),
+            is_open(frame),
+            core.output.held,
+        ) {
+            return level_end(samples, first);
+        }
+    }
+    first
+}
