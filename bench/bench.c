@@ -1,7 +1,8 @@
 /* The cost of a sample: the library through the C header, and the plain C model of tests/c, on the same traces.
- * usage: bench lib|one|file|little|model|none|nofile|trace WIDTH CROP OVERRUN ROWS [TIMES [DEPTH WAITING [SAMPLES]]]
- * one gives the samples one at a time; file runs the trace's file, little over as much memory as the frame printer has. none only makes the trace, nofile
- * makes it and writes its file: what lib, one and model, and what file and little, do besides running. trace prints the file.
+ * usage: bench lib|one|lib2|one2|file|little|model|model2|none|nofile|trace WIDTH CROP OVERRUN ROWS [TIMES [DEPTH WAITING [SAMPLES]]]
+ * one gives the samples one at a time; lib2, one2 and model2 do the same over two memories, in which the pictures land in turn. file runs the trace's
+ * file, little over as much memory as the frame printer has. none only makes the trace, nofile makes it and writes its file too: what the others, and what
+ * file and little, do besides running. trace prints the file.
  * WIDTH is 8, 10, 12 or 14, jpeg for compressed pictures, with CROP and WAITING 0, or ess for pictures with codes in the data, with WAITING 0; CROP and
  * OVERRUN are 0 or 1; ROWS is the number of rows of a picture, of 660 pixel clocks, two samples a clock. DEPTH is the FIFO's, four where none is named;
  * WAITING is how many words wait in it, at most the depth and only with CROP 0; 0 stands for the reference trace. SAMPLES is how many there are, one
@@ -17,7 +18,7 @@
 enum { CLOCKS = 660, COLUMNS = 640, MOST_SAMPLES = 10000000, LITTLE = 16384 };
 
 static uint32_t samples[MOST_SAMPLES];
-static uint8_t memory[MOST_SAMPLES], file[10 + 5 * 255 + 3 * MOST_SAMPLES];
+static uint8_t memory[MOST_SAMPLES], memory_b[MOST_SAMPLES], file[10 + 5 * 255 + 3 * MOST_SAMPLES];
 
 /* The middle rows of a picture, all but ten, and the first 640 clocks of each are not blanked; both polarities are 1; two samples a clock with the same
  * pins and data; a grant at every fourth sample, or none. With words waiting there are others: none until so many are held, then one with each sample
@@ -100,7 +101,8 @@ static void set_up(dcmi_writes *writes, uint8_t offset, uint32_t value)
 int main(int count, char **words)
 {
     if (count < 6 || count == 8)
-        return fprintf(stderr, "usage: bench lib|one|file|little|model|none|nofile|trace WIDTH CROP OVERRUN ROWS [TIMES [DEPTH WAITING [SAMPLES]]]\n"), 2;
+        return fprintf(stderr, "usage: bench lib|one|lib2|one2|file|little|model|model2|none|nofile|trace WIDTH CROP OVERRUN ROWS "
+                               "[TIMES [DEPTH WAITING [SAMPLES]]]\n"), 2;
     int jpeg = !strcmp(words[2], "jpeg"), ess = !strcmp(words[2], "ess");
     unsigned width = jpeg || ess ? 8 : (unsigned)atoi(words[2]), rows = (unsigned)atoi(words[5]), times = count > 6 ? (unsigned)atoi(words[6]) : 1;
     unsigned depth = count > 8 ? (unsigned)atoi(words[7]) : 4, waiting = count > 8 ? (unsigned)atoi(words[8]) : 0;
@@ -109,14 +111,16 @@ int main(int count, char **words)
     if (rows < 11 || n > MOST_SAMPLES || width < 8 || width > 14 || waiting > depth || (waiting && crop) || (jpeg && (crop || waiting))
         || (ess && waiting))
         return 2;
-    uint32_t cr = 0x40E1u | (width - 8) / 2 << 10 | (crop ? 4u : 0) | (jpeg ? 8u : 0) | (ess ? 16u : 0), start = 100u << 16 | 100, size = 199u << 16 | 299;
+    uint32_t cr = 0x40E1u | (width - 8) / 2 << 10 | (crop ? 4u : 0) | (jpeg ? 8u : 0) | (ess ? 16u : 0);
+    uint32_t start = 100 * rows / 490 << 16 | 100, size = (200 * rows / 490 - 1) << 16 | 299; /* of 490 rows 200 lines from line 100 on */
     if (jpeg)
         make_compressed(n, rows, overrun);
     else if (ess)
         make_coded(n, rows, overrun);
     else
         make(n, rows, overrun, width, waiting);
-    int one = !strcmp(words[1], "one"), little = !strcmp(words[1], "little"), run = little || !strcmp(words[1], "file");
+    int one2 = !strcmp(words[1], "one2"), model2 = !strcmp(words[1], "model2"), two = one2 || model2 || !strcmp(words[1], "lib2");
+    int one = one2 || !strcmp(words[1], "one"), little = !strcmp(words[1], "little"), run = little || !strcmp(words[1], "file");
     int trace = !strcmp(words[1], "trace"), filed = run || trace || !strcmp(words[1], "nofile");
 
     static dcmi_writes writes;
@@ -135,15 +139,29 @@ int main(int count, char **words)
     double best = 1e9;
     for (unsigned k = 0; k < times; k++) {
         double begin = seconds();
-        if (!strcmp(words[1], "model")) {
+        if (model2 || !strcmp(words[1], "model")) {
             camera c;
-            if (model_reset_depth(&c, depth))
+            lent both[BUFFERS] = { { memory, sizeof memory, 0 }, { memory_b, sizeof memory_b, 0 } };
+            if (model_reset_depth(&c, depth) || (two && model_two_buffers(&c)))
                 return 1;
             for (size_t i = 0; i < writes.count; i++)
                 model_write(&c, writes.offset[i], writes.value[i]);
-            if (model_run(&c, memory, sizeof memory, 0, samples, n))
+            if (two ? model_run_two(&c, both, samples, n) : model_run(&c, memory, sizeof memory, 0, samples, n))
                 return 1;
             landed = c.landed, held = c.held;
+        } else if (two) {
+            dcmi_device d;
+            dcmi_answer answer;
+            if (dcmi_reset_depth(&d, depth) || dcmi_two_buffers(&d))
+                return 1;
+            for (size_t i = 0; i < writes.count; i++)
+                dcmi_write(&d, writes.offset[i], writes.value[i]);
+            if (!one && dcmi_run_two(&d, memory, sizeof memory, 0, memory_b, sizeof memory_b, 0, samples, n))
+                return 1;
+            for (size_t i = 0; one && i < n; i++)
+                if (dcmi_sample_two(&d, memory, sizeof memory, 0, memory_b, sizeof memory_b, 0, samples[i], &answer))
+                    return 1;
+            landed = d.word[DCMI_W_LANDED], held = d.word[DCMI_W_HELD];
         } else if (one || !strcmp(words[1], "lib")) {
             dcmi_device d;
             dcmi_answer answer;

@@ -1,6 +1,6 @@
 #!/usr/bin/env bash
-# The tables of docs/SPEED.md: instructions and time a sample, of dcmi_run, dcmi_run_file, dcmi_sample and the model of tests/c; then of dcmi_run_file and
-# the frame printer by the length of the trace. Takes about two minutes; no test.
+# The tables of docs/SPEED.md: instructions and time a sample, of dcmi_run, dcmi_run_file, dcmi_sample and the model of tests/c; of the calls over two
+# memories; then of dcmi_run_file and the frame printer by the length of the trace. Takes some minutes; no test.
 set -eu
 cd "$(dirname "$0")/.."
 out=target/bench
@@ -73,6 +73,34 @@ sample() {
 sample 4 'at most 1 word' 0
 sample 4 '3 words' 3
 sample 32 '30 words' 30
+
+# two buffers in turn: five pictures of 98 rows, or two of 490, to A, to B and so on; the cropped window has two fifths of the rows
+echo
+echo '| bits | cropped | grants | rows | pictures | `dcmi_run_two`: instructions, ns | `dcmi_run` | model in mode two, C at -O2 |'
+echo '|---|---|---|---|---|---|---|---|'
+# row_two WIDTH CROP ROWS PICTURES
+row_two() {
+    local bits=$1 crop=no samples=$((1320 * $3 * $4)) which
+    [ "$1" = jpeg ] && bits='8, JPEG'
+    [ "$1" = ess ] && bits='8, codes'
+    [ "$2" = 1 ] && crop=yes
+    local line="| $bits | $crop | one in four | $3 | $4 |"
+    for which in lib2 lib model2; do
+        count_cost $which "$1" "$2" 0 "$3" 4 0 $samples
+        line="$line $cost, $(took $which "$1" "$2" 0 "$3" 4 0 $samples) |"
+    done
+    echo "$line"
+}
+row_two 14 0 490 2
+row_two 14 0 98 5
+row_two 14 1 98 5
+row_two 8 0 98 5
+row_two jpeg 0 98 5
+row_two ess 0 98 5
+row_two ess 1 98 5
+echo
+count_cost one2 14 0 0 98 4 0 646800
+echo "\`dcmi_sample_two\`, 14 bits, 98 rows, five pictures, depth 4, at most 1 word waiting: $cost instructions a call, $(took one2 14 0 0 98 4 0 646800) ns."
 
 # by the length: pictures of 490 rows, 14 bits, one in four granted; the printer through a pipe, less what it takes for a file with the same write and no sample
 echo

@@ -25,17 +25,18 @@ enum {
     DCMI_ACCESS = 3,       /* read of ICR, or write of SR, RIS, MIS */
     DCMI_RESERVED = 4,     /* a reserved bit of the written value is 1 */
     DCMI_UNSUPPORTED = 5,  /* CR with FCRC 3, CAPTURE 1 and ENABLE 0, JPEG 1 and not both EDM 0 and CROP 0, or ESS 1 and not both EDM 0 and JPEG 0 */
-    DCMI_ENABLED = 6,      /* ENABLE is 1, and ESCR, ESUR, CWSTRT or CWSIZE is written, even with the value it holds, or a CR bit other than 0 and 14
-                            * would change */
+    DCMI_ENABLED = 6,      /* ENABLE is 1, and ESCR, ESUR, CWSTRT or CWSIZE is written, even with the value it holds, a CR bit other than 0 and 14
+                            * would change, or the buffer mode is set */
     DCMI_SAMPLE_BITS = 7,  /* a sample has a bit above 17 */
     DCMI_SAMPLES = 8,      /* samples in all would pass 4,294,967,295 */
-    DCMI_START = 9,        /* start byte above the memory length */
+    DCMI_START = 9,        /* start byte above the memory length; of two memories, either start above its own length */
     DCMI_MARK = 10,        /* the file's mark is not FGT */
     DCMI_VERSION = 11,     /* the file's version is neither 1 nor 2 */
     DCMI_COUNT = 12,       /* version 1 with more than 16,384 samples, version 2 with no more, or more than 4,294,967,295 given to the writer */
     DCMI_LENGTH = 13,      /* fewer than 8 bytes, fewer than 10 in version 2, or length not as the header says */
     DCMI_WRITES = 14,      /* more than 255 writes given to the writer */
     DCMI_ROOM = 15,        /* the writer's output does not fit */
+    DCMI_MODE = 16,        /* one memory is lent in mode two, or two in mode one */
     DCMI_DEPTH = 18        /* depth 0 or above 32 where a device is made */
 };
 
@@ -46,11 +47,11 @@ enum {
 };
 
 /* A device: an image of 32-bit words that the caller owns, copies and stores as it likes. `dcmi_reset` and `dcmi_reset_depth` make a fresh one.
- * A word that is 0 or 1 says no or yes; an image with another value there, a frame above 2, more than 3 waiting bytes, or lines or pixels in a closed frame
- * encodes no device: every call that reads a device refuses it with DCMI_MALFORMED, as it does a device that breaks one of the rules for well-formed
- * devices. */
+ * A word that is 0 or 1 says no or yes; an image with another value there, a frame above 2, more than 3 waiting bytes, lines or pixels in a closed frame,
+ * or in mode one a word from DCMI_W_PLACE_B on that is not 0 encodes no device: every call that reads a device refuses it with DCMI_MALFORMED, as it does
+ * a device that breaks one of the rules for well-formed devices. */
 enum {
-    DCMI_WORDS = 58,
+    DCMI_WORDS = 67,
     DCMI_W_CR = 0,             /* registers */
     DCMI_W_RIS = 1,
     DCMI_W_IER = 2,
@@ -70,7 +71,7 @@ enum {
     DCMI_W_PARTIAL_BITS = 15,
     DCMI_W_SLOT = 16,          /* 32 FIFO slots, 16 to 47, at every depth: the held words, oldest first, then zeros */
     DCMI_W_HELD = 48,          /* how many words are held, at most the depth */
-    DCMI_W_PLACE = 49,         /* the number of the next word to land */
+    DCMI_W_PLACE = 49,         /* the number of the next word to land; in mode two of the next in A */
     DCMI_W_SAMPLES = 50,       /* counts since reset */
     DCMI_W_COMPLETED = 51,
     DCMI_W_LANDED = 52,
@@ -78,7 +79,16 @@ enum {
     DCMI_W_DEPTH = 54,         /* the depth of the FIFO, 1 to 32, fixed when the device is made */
     DCMI_W_ESCR = 55,          /* registers of embedded codes */
     DCMI_W_ESUR = 56,
-    DCMI_W_WAITING = 57        /* how many bytes wait that may begin a code: none, FF, FF 00 or FF 00 00 */
+    DCMI_W_WAITING = 57,       /* how many bytes wait that may begin a code: none, FF, FF 00 or FF 00 00 */
+    DCMI_W_MODE = 58,          /* the buffer mode: 0 one, 1 two. In mode one all words below are 0 */
+    DCMI_W_PLACE_B = 59,       /* the number of the next word in B */
+    DCMI_W_IN_B = 60,          /* of each held word a bit, the oldest being bit 0: whether it goes to B, and whether it opens a frame */
+    DCMI_W_OPENING = 61,
+    DCMI_W_TURN = 62,          /* the buffer of the frame that completed a word last: 0 A, 1 B */
+    DCMI_W_BEGUN = 63,         /* whether that is the open frame: 0 or 1 */
+    DCMI_W_FRAME_A = 64,    /* the frame in A and in B: 0 none is known, 1 one of which all words that landed did so since the last re-arming, */
+    DCMI_W_FRAME_B = 65,    /* 2 a complete one */
+    DCMI_W_LATEST = 66         /* the buffer whose frame became complete last: 0 A, 1 B */
 };
 
 typedef struct dcmi_device {
@@ -89,11 +99,20 @@ typedef struct dcmi_device {
 enum { DCMI_NOTHING = 0, DCMI_COMPLETED = 1, DCMI_LOST = 2 };
 
 typedef struct dcmi_answer {
-    uint64_t landed; /* 1 if a word landed in memory, else 0 */
+    uint64_t landed; /* 1 if a word landed in memory, else 0; over two memories 1 if it landed in A, 2 if in B */
     uint64_t byte;   /* the byte of the memory at which it landed; 0 if none did */
     uint64_t packed; /* DCMI_NOTHING, DCMI_COMPLETED or DCMI_LOST */
     uint64_t value;  /* the completed word; 0 if none was, or it was lost */
 } dcmi_answer;
+
+/* Where the latest complete frame is, in mode two: nowhere, or from byte `offset` of A or B on, `length` bytes; or its memory is too short for it. */
+enum { DCMI_NO_FRAME = 0, DCMI_FRAME_IN_A = 1, DCMI_FRAME_IN_B = 2, DCMI_TOO_SHORT = 3 };
+
+typedef struct dcmi_frame {
+    uint64_t kind;   /* DCMI_NO_FRAME, DCMI_FRAME_IN_A, DCMI_FRAME_IN_B or DCMI_TOO_SHORT */
+    uint64_t offset; /* that memory's start byte; else 0 */
+    uint64_t length; /* 4 for each word of the frame; else 0 */
+} dcmi_frame;
 
 /* A trace file, version 1 or 2, all numbers little-endian:
  *
@@ -137,12 +156,25 @@ uint32_t dcmi_read(const dcmi_device *device, uint32_t offset, uint32_t *value);
 /* The interrupt line into *line: 1 up, 0 down. Refusal 1. */
 uint32_t dcmi_interrupt(const dcmi_device *device, uint32_t *line);
 
-/* The place of the next word becomes 0. Refusal 1. */
+/* The place of the next word becomes 0; in mode two both places, and no frame is complete. Refusal 1. */
 uint32_t dcmi_rearm(dcmi_device *device);
+
+/* The buffer mode: one memory, as after reset, or two frame buffers in turn, A first. It is set anew, and re-arms, also if it is the same. Refusals 1, 6
+ * in order. */
+uint32_t dcmi_one_buffer(dcmi_device *device);
+uint32_t dcmi_two_buffers(dcmi_device *device);
+
+/* In mode two: where the latest complete frame is in the memories of the runs, of which the lengths and starts are given, into *frame. Refusals 1, 16, 9 in
+ * order. */
+uint32_t dcmi_latest_frame(const dcmi_device *device, size_t length_a, size_t start_a, size_t length_b, size_t start_b, dcmi_frame *frame);
 
 /* What the static library exports for the calls below, which pass a slice as a pointer that is not null and a length. Call those. */
 uint32_t dcmi_sample_slices(dcmi_device *device, uint8_t *memory, size_t length, size_t start, uint32_t sample, dcmi_answer *answer);
 uint32_t dcmi_run_slices(dcmi_device *device, uint8_t *memory, size_t length, size_t start, const uint32_t *samples, size_t count);
+uint32_t dcmi_sample_two_slices(dcmi_device *device, uint8_t *memory_a, size_t length_a, size_t start_a, uint8_t *memory_b, size_t length_b, size_t start_b,
+                                uint32_t sample, dcmi_answer *answer);
+uint32_t dcmi_run_two_slices(dcmi_device *device, uint8_t *memory_a, size_t length_a, size_t start_a, uint8_t *memory_b, size_t length_b, size_t start_b,
+                             const uint32_t *samples, size_t count);
 uint32_t dcmi_run_file_slices(dcmi_device *device, const uint8_t *file, size_t file_length, uint8_t *memory, size_t length, size_t start);
 uint32_t dcmi_run_file_depth_slices(dcmi_device *device, uint32_t depth, const uint8_t *file, size_t file_length, uint8_t *memory, size_t length,
                                     size_t start);
@@ -150,19 +182,39 @@ uint32_t dcmi_trace_write_slices(size_t count, const uint8_t *offsets, const uin
                                  uint8_t *out, size_t length, size_t *written);
 uint32_t dcmi_trace_item_slices(const uint8_t *file, size_t length, size_t place, dcmi_item *item);
 
-/* One sample over the memory from the start byte on, its two answers into *answer. Refusals 1, 9, 7, 8 in order. */
+/* One sample over the memory from the start byte on, its two answers into *answer. Refusals 1, 16, 9, 7, 8 in order. */
 static inline uint32_t dcmi_sample(dcmi_device *device, uint8_t *memory, size_t length, size_t start, uint32_t sample, dcmi_answer *answer)
 {
     uint8_t none = 0;
     return dcmi_sample_slices(device, length ? memory : &none, length, start, sample, answer);
 }
 
-/* A run of samples over the memory from the start byte on. Refusals 1, 9, 7, 8 in order. */
+/* A run of samples over the memory from the start byte on. Refusals 1, 16, 9, 7, 8 in order. */
 static inline uint32_t dcmi_run(dcmi_device *device, uint8_t *memory, size_t length, size_t start, const uint32_t *samples, size_t count)
 {
     uint8_t none = 0;
     uint32_t nothing = 0;
     return dcmi_run_slices(device, length ? memory : &none, length, start, count ? samples : &nothing, count);
+}
+
+/* The same over two memories, which must not overlap, each from its start byte on, in mode two. Refusals 1, 16, 9, 7, 8 in order. */
+static inline uint32_t dcmi_sample_two(dcmi_device *device, uint8_t *memory_a, size_t length_a, size_t start_a, uint8_t *memory_b, size_t length_b,
+                                       size_t start_b, uint32_t sample, dcmi_answer *answer)
+{
+    uint8_t none_a = 0;
+    uint8_t none_b = 0;
+    return dcmi_sample_two_slices(device, length_a ? memory_a : &none_a, length_a, start_a, length_b ? memory_b : &none_b, length_b, start_b, sample,
+                                  answer);
+}
+
+static inline uint32_t dcmi_run_two(dcmi_device *device, uint8_t *memory_a, size_t length_a, size_t start_a, uint8_t *memory_b, size_t length_b,
+                                    size_t start_b, const uint32_t *samples, size_t count)
+{
+    uint8_t none_a = 0;
+    uint8_t none_b = 0;
+    uint32_t nothing = 0;
+    return dcmi_run_two_slices(device, length_a ? memory_a : &none_a, length_a, start_a, length_b ? memory_b : &none_b, length_b, start_b,
+                               count ? samples : &nothing, count);
 }
 
 /* A trace file of either version on a fresh device with a FIFO of four words: its writes, then its samples as one run. *device is written only, and

@@ -1,5 +1,5 @@
 #!/usr/bin/env bash
-# docs/BENCH.md: its two programs are taken out, compiled without a warning and run; the commands of the ice bath and of the codes are run; what they print
+# docs/BENCH.md: its three programs are taken out, compiled without a warning and run; the commands of the ice bath and of the codes are run; what they print
 # is what the page shows.
 set -u
 cd "$(dirname "$0")/.." || exit 2
@@ -27,6 +27,7 @@ program() {
 }
 program 'A first program' first
 program 'Compressed pictures' compressed
+program 'Two buffers' two_buffers
 
 # The commands of a section stand after a dollar sign, what they print under them; rt's own lines are not shown.
 commands() {

@@ -7,10 +7,11 @@ cd "$(dirname "$0")/.." || exit 2
 
 OUT=target/tests
 STRICT="-Wall -Wextra -pedantic -Werror -Iinclude"
-PARTS="tests/c/compare.c tests/c/checked.c tests/c/reached.c tests/c/inputs.c tests/c/guard.c tests/c/model.c"
+PARTS="tests/c/compare.c tests/c/checked.c tests/c/reached.c tests/c/frames.c tests/c/inputs.c tests/c/guard.c tests/c/model.c"
 
-# Seeds of the short run under valgrind, and how many calls of each; 9 has JPEG frames, 10 codes in the data, 7 and 36 reach files of version 2.
-SHORT_SEEDS="0 1 2 4 7 8 9 10 36"
+# Seeds of the short run under valgrind, and how many calls of each; 9 has JPEG frames, 10 codes in the data, 11 two buffers, 7 and 30 reach files of
+# version 2.
+SHORT_SEEDS="0 1 2 4 7 8 9 10 11 30"
 SHORT_CALLS=12000
 
 fail() {

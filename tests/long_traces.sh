@@ -8,7 +8,7 @@ cd "$(dirname "$0")/.." || exit 2
 printer=$PWD/target/bin/frame_printer
 out=target/tests
 STRICT="-std=c11 -O2 -g -Wall -Wextra -pedantic -Werror -Iinclude"
-LIMITS="tests/c/long_traces.c tests/c/checked.c tests/c/reached.c tests/c/guard.c tests/c/inputs.c tests/c/model.c"
+LIMITS="tests/c/long_traces.c tests/c/checked.c tests/c/reached.c tests/c/frames.c tests/c/guard.c tests/c/inputs.c tests/c/model.c"
 PIPED="tests/c/child.c tests/c/printed.c tests/c/inputs.c tests/c/model.c"
 
 # Samples of the trace that is made while the printer reads it.

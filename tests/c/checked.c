@@ -22,7 +22,8 @@ static const char *word_name(unsigned word)
         "PARTIAL_COUNT", "PARTIAL_BITS",
     };
     static const char *const after[DCMI_WORDS - DCMI_W_HELD] = {
-        "HELD", "PLACE", "SAMPLES", "COMPLETED", "LANDED", "DISCARDED", "DEPTH", "ESCR", "ESUR", "WAITING",
+        "HELD", "PLACE", "SAMPLES", "COMPLETED", "LANDED", "DISCARDED", "DEPTH", "ESCR", "ESUR", "WAITING", "MODE", "PLACE_B", "IN_B", "OPENING", "TURN",
+        "BEGUN", "FRAME_A", "FRAME_B", "LATEST",
     };
     static char slot[24];
     if (word < DCMI_W_SLOT) return before[word];
@@ -39,13 +40,21 @@ static unsigned differences;
 
 /* What the model holds. */
 static uint32_t want_device[DCMI_WORDS];
-static uint8_t *want_memory, own_memory[MOST_MEMORY];
-static uint8_t *lent_memory;
-static size_t length_of_memory;
-static bool memory_is_far;
+static uint8_t own_memory[BUFFERS][MOST_MEMORY];
 
 /* What the library is lent. */
-static guarded g_device, g_memory, g_samples, g_file, g_out, g_output, g_writes, g_offsets, g_values;
+static guarded g_device, g_samples, g_file, g_out, g_output, g_writes, g_offsets, g_values;
+
+/* A memory, A or B: the model's, the library's, and its guarded buffer. */
+typedef struct both_sides {
+    uint8_t *want, *lent;
+    size_t length;
+    bool far;
+    guarded guard;
+} both_sides;
+
+static both_sides memories[BUFFERS];
+static both_sides *const a = &memories[BUFFER_A], *const b = &memories[BUFFER_B];
 
 static bool far_missing;
 
@@ -72,10 +81,16 @@ static void print_call(void)
     case RESET_DEPTH: printf(", depth %" PRIu32, now.depth); break;
     case WRITE: printf(", offset 0x%" PRIX32 ", value 0x%" PRIX32, now.offset, now.value); break;
     case READ: printf(", offset 0x%" PRIX32, now.offset); break;
-    case SAMPLE: printf(", memory of %zu bytes, start %zu, sample 0x%05" PRIX32, length_of_memory, now.start, now.value); break;
-    case RUN: printf(", memory of %zu bytes, start %zu, %zu samples", length_of_memory, now.start, now.count); break;
+    case SAMPLE: printf(", memory of %zu bytes, start %zu, sample 0x%05" PRIX32, a->length, now.start, now.value); break;
+    case RUN: printf(", memory of %zu bytes, start %zu, %zu samples", a->length, now.start, now.count); break;
+    case LATEST_FRAME: case SAMPLE_TWO: case RUN_TWO:
+        printf(", memories of %zu and %zu bytes, starts %zu and %zu", now.lent[BUFFER_A].length, now.lent[BUFFER_B].length, now.lent[BUFFER_A].start,
+               now.lent[BUFFER_B].start);
+        if (now.kind == SAMPLE_TWO) printf(", sample 0x%05" PRIX32, now.value);
+        if (now.kind == RUN_TWO) printf(", %zu samples", now.count);
+        break;
     case RUN_FILE_DEPTH: printf(", depth %" PRIu32, now.depth); /* fall through */
-    case RUN_FILE: printf(", file of %zu bytes, memory of %zu bytes, start %zu", now.length, length_of_memory, now.start); break;
+    case RUN_FILE: printf(", file of %zu bytes, memory of %zu bytes, start %zu", now.length, a->length, now.start); break;
     case TRACE_WRITE: printf(", %zu writes, %zu samples, buffer of %zu bytes", now.writes->count, now.count, now.length); break;
     case TRACE_ITEM: printf(", file of %zu bytes, place %zu", now.length, now.place); break;
     default: break;
@@ -154,7 +169,8 @@ void checked_start(const char *name)
     program = name;
     catch_signals();
     guard_make(&g_device, sizeof(dcmi_device));
-    guard_make(&g_memory, MOST_MEMORY);
+    guard_make(&a->guard, MOST_MEMORY);
+    guard_make(&b->guard, MOST_MEMORY);
     guard_make(&g_samples, 4 * MOST_SAMPLES);
     guard_make(&g_file, MOST_FILE);
     guard_make(&g_out, MOST_FILE);
@@ -175,6 +191,7 @@ void checked_seed(uint64_t number, lending lent, uint64_t calls, uint64_t last_c
     guard_lend(&g_device, sizeof(dcmi_device), how.at_end);
     memset(g_device.at, 0, sizeof(dcmi_device));
     lend_memory(0);
+    lend_memory_b(0);
     alarm(120);
 }
 
@@ -188,49 +205,65 @@ void set_device(const uint32_t *image)
     memcpy(g_device.at, image, sizeof want_device);
 }
 
-void lend_memory(size_t length)
+static void lend_one(buffer which, size_t length)
 {
-    memory_is_far = false;
-    length_of_memory = length;
-    want_memory = own_memory;
-    lent_memory = guard_lend(&g_memory, length, how.at_end);
-    random_bytes(want_memory, length);
-    memcpy(lent_memory, want_memory, length);
+    both_sides *m = &memories[which];
+    m->far = false;
+    m->length = length;
+    m->want = own_memory[which];
+    m->lent = guard_lend(&m->guard, length, how.at_end);
+    random_bytes(m->want, length);
+    memcpy(m->lent, m->want, length);
 }
 
-size_t memory_length(void) { return length_of_memory; }
-const uint8_t *memory_bytes(void) { return want_memory; }
+void lend_memory(size_t length) { lend_one(BUFFER_A, length); }
+void lend_memory_b(size_t length) { lend_one(BUFFER_B, length); }
+size_t memory_length(void) { return a->length; }
+size_t memory_b_length(void) { return b->length; }
+const uint8_t *memory_bytes(void) { return a->want; }
+const uint8_t *memory_b_bytes(void) { return b->want; }
 
-/* The two far memories, one for each side. */
-static uint8_t *far_lent, *far_want;
+/* The far memories, one for each side. */
+static struct { uint8_t *lent, *want; } far[BUFFERS];
 static const size_t far_size = ((size_t)1 << 34) + (1 << 16);
 
-uint8_t *far_memory(void)
+static uint8_t *far_pages(void)
 {
-    static bool tried;
-    if (tried) return far_lent;
-    tried = true;
     const int flags = MAP_PRIVATE | MAP_ANONYMOUS | MAP_NORESERVE;
-    uint8_t *one = mmap(NULL, far_size, PROT_READ | PROT_WRITE, flags, -1, 0);
-    uint8_t *two = mmap(NULL, far_size, PROT_READ | PROT_WRITE, flags, -1, 0);
-    far_missing = one == MAP_FAILED || two == MAP_FAILED;
-    if (far_missing) return NULL;
-    far_lent = one;
-    far_want = two;
-    return far_lent;
+    uint8_t *pages = mmap(NULL, far_size, PROT_READ | PROT_WRITE, flags, -1, 0);
+    far_missing |= pages == MAP_FAILED;
+    return pages;
 }
 
-bool lend_far_memory(size_t length)
+static bool have_far(void)
 {
-    if (!far_memory()) return false;
-    madvise(far_lent, far_size, MADV_DONTNEED);
-    madvise(far_want, far_size, MADV_DONTNEED);
-    memory_is_far = true;
-    length_of_memory = length;
-    lent_memory = far_lent;
-    want_memory = far_want;
+    static bool tried;
+    if (!tried)
+        for (unsigned i = 0; i < BUFFERS; i++) {
+            far[i].lent = far_pages();
+            far[i].want = far_pages();
+        }
+    tried = true;
+    return !far_missing;
+}
+
+uint8_t *far_memory(void) { return have_far() ? far[BUFFER_A].lent : NULL; }
+
+static bool lend_far(buffer which, size_t length)
+{
+    if (!have_far()) return false;
+    madvise(far[which].lent, far_size, MADV_DONTNEED);
+    madvise(far[which].want, far_size, MADV_DONTNEED);
+    both_sides *m = &memories[which];
+    m->far = true;
+    m->length = length;
+    m->lent = far[which].lent;
+    m->want = far[which].want;
     return true;
 }
+
+bool lend_far_memory(size_t length) { return lend_far(BUFFER_A, length); }
+bool lend_far_memory_b(size_t length) { return lend_far(BUFFER_B, length); }
 
 /* ---- comparing ---- */
 
@@ -254,28 +287,36 @@ static void compare_device(void)
     }
 }
 
-/* A part of the far memory around a byte. */
-static void compare_around(uint64_t byte)
+/* A part of a far memory around a byte. */
+static void compare_around(const both_sides *m, const char *name, uint64_t byte)
 {
     const size_t from = byte > 4096 ? byte - 4096 : 0;
-    if (from >= length_of_memory) return;
-    const size_t count = length_of_memory - from < 8192 ? length_of_memory - from : 8192;
+    if (from >= m->length) return;
+    const size_t count = m->length - from < 8192 ? m->length - from : 8192;
     char what[64];
-    snprintf(what, sizeof what, "memory from %zu on", from);
-    compare_bytes(what, want_memory + from, lent_memory + from, count);
+    snprintf(what, sizeof what, "%s from %zu on", name, from);
+    compare_bytes(what, m->want + from, m->lent + from, count);
 }
 
-static void compare_memory(void)
+static void compare_memory(const both_sides *m, const char *name, size_t start, uint32_t place)
 {
-    if (!memory_is_far) {
-        compare_bytes("memory", want_memory, lent_memory, length_of_memory);
+    if (!m->far) {
+        compare_bytes(name, m->want, m->lent, m->length);
         return;
     }
-    const uint64_t landing = now.start + 4 * (uint64_t)now.before[DCMI_W_PLACE];
-    compare_around(0);
-    compare_around(landing);
-    compare_around((uint32_t)landing);
-    compare_around(length_of_memory);
+    const uint64_t landing = start + 4 * (uint64_t)place;
+    compare_around(m, name, 0);
+    compare_around(m, name, start);
+    compare_around(m, name, landing);
+    compare_around(m, name, (uint32_t)landing);
+    compare_around(m, name, m->length);
+}
+
+static void compare_memories(void)
+{
+    const bool two = now.kind == SAMPLE_TWO || now.kind == RUN_TWO;
+    compare_memory(a, two ? "memory A" : "memory", two ? now.lent[BUFFER_A].start : now.start, now.before[DCMI_W_PLACE]);
+    compare_memory(b, "memory B", two ? now.lent[BUFFER_B].start : 0, now.before[DCMI_W_PLACE_B]);
 }
 
 static void compare_beside(const char *what, const guarded *g)
@@ -293,7 +334,7 @@ static void begin(call_kind kind)
         printf("no difference up to here\n");
         exit(0);
     }
-    now = (call){ .kind = kind, .number = now.number + 1, .memory = want_memory, .memory_length = length_of_memory };
+    now = (call){ .kind = kind, .number = now.number + 1, .memory = a->want, .memory_length = a->length };
     memcpy(now.before, want_device, sizeof want_device);
 }
 
@@ -304,9 +345,10 @@ static uint32_t finish(uint32_t want, uint32_t got)
         printf("  the model answers %" PRIu32 ", the library %" PRIu32 "\n", want, got);
     }
     compare_device();
-    compare_memory();
+    compare_memories();
     compare_beside("device", &g_device);
-    compare_beside("memory", &g_memory);
+    compare_beside("memory", &a->guard);
+    compare_beside("memory B", &b->guard);
     stop_if_different();
     now.answer = want;
     memcpy(now.after, want_device, sizeof want_device);
@@ -447,9 +489,71 @@ uint32_t check_rearm(void)
     return finish(want, dcmi_rearm(g_device.at));
 }
 
+static uint32_t check_mode(call_kind kind)
+{
+    begin(kind);
+    camera c;
+    uint32_t want = 1;
+    if (model_from_image(&c, want_device)) {
+        want = kind == ONE_BUFFER ? model_one_buffer(&c) : model_two_buffers(&c);
+        model_to_image(&c, want_device);
+    }
+    return finish(want, kind == ONE_BUFFER ? dcmi_one_buffer(g_device.at) : dcmi_two_buffers(g_device.at));
+}
+
+uint32_t check_one_buffer(void) { return check_mode(ONE_BUFFER); }
+uint32_t check_two_buffers(void) { return check_mode(TWO_BUFFERS); }
+
+/* The two memories of a call: of the model, as they are lent here. */
+static void lend_both(size_t length_a, size_t start_a, size_t length_b, size_t start_b)
+{
+    now.lent[BUFFER_A] = (lent){ a->want, length_a, start_a };
+    now.lent[BUFFER_B] = (lent){ b->want, length_b, start_b };
+}
+
+uint32_t check_latest_frame(size_t length_a, size_t start_a, size_t length_b, size_t start_b, dcmi_frame *frame)
+{
+    static const char *const name[] = { "kind", "offset", "length" };
+    begin(LATEST_FRAME);
+    lend_both(length_a, start_a, length_b, start_b);
+    camera c;
+    handed found;
+    uint32_t want = 1;
+    uint64_t want_frame[3];
+    dcmi_frame *lent_frame = lend_output(&g_output, want_frame, sizeof want_frame);
+    if (model_from_image(&c, want_device)) want = model_latest_frame(&c, now.lent, &found);
+    if (!want) {
+        static const uint64_t kinds[] = { DCMI_NO_FRAME, DCMI_FRAME_IN_A, DCMI_FRAME_IN_B, DCMI_TOO_SHORT };
+        want_frame[0] = kinds[found.kind];
+        want_frame[1] = found.offset;
+        want_frame[2] = found.length;
+    }
+    if (how.read_only) guard_lock(&g_device);
+    const uint32_t got = dcmi_latest_frame(g_device.at, length_a, start_a, length_b, start_b, lent_frame);
+    if (how.read_only) guard_unlock(&g_device);
+    compare_fields(name, want_frame, 3);
+    now.output = want_frame[0];
+    now.part_offset = want_frame[1];
+    now.part_length = want_frame[2];
+    if (frame && !want) memcpy(frame, g_output.at, sizeof *frame);
+    return finish(want, got);
+}
+
+uint32_t check_latest(size_t start_a, size_t start_b, dcmi_frame *frame) { return check_latest_frame(a->length, start_a, b->length, start_b, frame); }
+
+/* The answer of one sample as numbers of the header. */
+static const char *const answer_name[] = { "landed", "byte", "packed", "value" };
+
+static void answer_of(const outcome *out, uint64_t *fields)
+{
+    fields[0] = out->landed == LANDED_A ? 1 : out->landed == LANDED_B ? 2 : 0;
+    fields[1] = out->byte;
+    fields[2] = out->packed == PACKED_WORD ? DCMI_COMPLETED : out->packed == PACKED_LOST ? DCMI_LOST : DCMI_NOTHING;
+    fields[3] = out->word;
+}
+
 uint32_t check_sample(size_t start, uint32_t sample, dcmi_answer *answer)
 {
-    static const char *const name[] = { "landed", "byte", "packed", "value" };
     begin(SAMPLE);
     now.start = start;
     now.value = sample;
@@ -459,18 +563,13 @@ uint32_t check_sample(size_t start, uint32_t sample, dcmi_answer *answer)
     uint64_t want_answer[4];
     dcmi_answer *lent = lend_output(&g_output, want_answer, sizeof want_answer);
     if (model_from_image(&c, want_device)) {
-        want = model_sample(&c, want_memory, length_of_memory, start, sample, &out);
+        want = model_sample(&c, a->want, a->length, start, sample, &out);
         model_to_image(&c, want_device);
     }
-    if (!want) {
-        want_answer[0] = out.landed;
-        want_answer[1] = out.byte;
-        want_answer[2] = out.packed == PACKED_WORD ? DCMI_COMPLETED : out.packed == PACKED_LOST ? DCMI_LOST : DCMI_NOTHING;
-        want_answer[3] = out.word;
-    }
-    const uint32_t got = direct() ? dcmi_sample_slices(g_device.at, lent_memory, length_of_memory, start, sample, lent)
-                                  : dcmi_sample(g_device.at, or_null(lent_memory, length_of_memory), length_of_memory, start, sample, lent);
-    compare_fields(name, want_answer, 4);
+    if (!want) answer_of(&out, want_answer);
+    const uint32_t got = direct() ? dcmi_sample_slices(g_device.at, a->lent, a->length, start, sample, lent)
+                                  : dcmi_sample(g_device.at, or_null(a->lent, a->length), a->length, start, sample, lent);
+    compare_fields(answer_name, want_answer, 4);
     if (answer && !want) memcpy(answer, g_output.at, sizeof *answer);
     return finish(want, got);
 }
@@ -484,28 +583,82 @@ uint32_t check_run(size_t start, const uint32_t *samples, size_t count)
     camera c;
     uint32_t want = 1;
     if (model_from_image(&c, want_device)) {
-        want = model_run(&c, want_memory, length_of_memory, start, samples, count);
+        want = model_run(&c, a->want, a->length, start, samples, count);
         model_to_image(&c, want_device);
     }
     uint32_t *lent = lend(&g_samples, samples, 4 * count);
-    const uint32_t got = direct() ? dcmi_run_slices(g_device.at, lent_memory, length_of_memory, start, lent, count)
-                                  : dcmi_run(g_device.at, or_null(lent_memory, length_of_memory), length_of_memory, start, or_null(lent, count), count);
+    const uint32_t got = direct() ? dcmi_run_slices(g_device.at, a->lent, a->length, start, lent, count)
+                                  : dcmi_run(g_device.at, or_null(a->lent, a->length), a->length, start, or_null(lent, count), count);
+    take_back("samples", &g_samples, samples, 4 * count);
+    return finish(want, got);
+}
+
+static uint32_t call_sample_two(uint32_t sample, dcmi_answer *answer)
+{
+    const size_t start_a = now.lent[BUFFER_A].start, start_b = now.lent[BUFFER_B].start;
+    if (direct()) return dcmi_sample_two_slices(g_device.at, a->lent, a->length, start_a, b->lent, b->length, start_b, sample, answer);
+    return dcmi_sample_two(g_device.at, or_null(a->lent, a->length), a->length, start_a, or_null(b->lent, b->length), b->length, start_b, sample, answer);
+}
+
+uint32_t check_sample_two(size_t start_a, size_t start_b, uint32_t sample, dcmi_answer *answer)
+{
+    begin(SAMPLE_TWO);
+    lend_both(a->length, start_a, b->length, start_b);
+    now.value = sample;
+    camera c;
+    outcome out;
+    uint32_t want = 1;
+    uint64_t want_answer[4];
+    dcmi_answer *lent_answer = lend_output(&g_output, want_answer, sizeof want_answer);
+    if (model_from_image(&c, want_device)) {
+        want = model_sample_two(&c, now.lent, sample, &out);
+        model_to_image(&c, want_device);
+    }
+    if (!want) answer_of(&out, want_answer);
+    const uint32_t got = call_sample_two(sample, lent_answer);
+    compare_fields(answer_name, want_answer, 4);
+    now.output = want_answer[0];
+    if (answer && !want) memcpy(answer, g_output.at, sizeof *answer);
+    return finish(want, got);
+}
+
+static uint32_t call_run_two(uint32_t *samples, size_t count)
+{
+    const size_t start_a = now.lent[BUFFER_A].start, start_b = now.lent[BUFFER_B].start;
+    if (direct()) return dcmi_run_two_slices(g_device.at, a->lent, a->length, start_a, b->lent, b->length, start_b, samples, count);
+    return dcmi_run_two(g_device.at, or_null(a->lent, a->length), a->length, start_a, or_null(b->lent, b->length), b->length, start_b,
+                        or_null(samples, count), count);
+}
+
+uint32_t check_run_two(size_t start_a, size_t start_b, const uint32_t *samples, size_t count)
+{
+    begin(RUN_TWO);
+    lend_both(a->length, start_a, b->length, start_b);
+    now.samples = samples;
+    now.count = count;
+    camera c;
+    uint32_t want = 1;
+    if (model_from_image(&c, want_device)) {
+        want = model_run_two(&c, now.lent, samples, count);
+        model_to_image(&c, want_device);
+    }
+    const uint32_t got = call_run_two(lend(&g_samples, samples, 4 * count), count);
     take_back("samples", &g_samples, samples, 4 * count);
     return finish(want, got);
 }
 
 static uint32_t call_run_file(uint8_t *file, size_t file_length, size_t start)
 {
-    uint8_t *memory = lent_memory;
-    const size_t length = length_of_memory;
+    uint8_t *memory = a->lent;
+    const size_t length = a->length;
     if (direct()) return dcmi_run_file_slices(g_device.at, file, file_length, memory, length, start);
     return dcmi_run_file(g_device.at, or_null(file, file_length), file_length, or_null(memory, length), length, start);
 }
 
 static uint32_t call_run_file_depth(uint8_t *file, size_t file_length, size_t start)
 {
-    uint8_t *memory = lent_memory;
-    const size_t length = length_of_memory;
+    uint8_t *memory = a->lent;
+    const size_t length = a->length;
     if (direct()) return dcmi_run_file_depth_slices(g_device.at, now.depth, file, file_length, memory, length, start);
     return dcmi_run_file_depth(g_device.at, now.depth, or_null(file, file_length), file_length, or_null(memory, length), length, start);
 }
@@ -519,8 +672,8 @@ static uint32_t check_file(call_kind kind, uint32_t depth, const uint8_t *file, 
     now.start = start;
     camera c;
     const bool own = file_length <= MOST_FILE;
-    const uint32_t want = kind == RUN_FILE ? model_run_file(&c, file, file_length, want_memory, length_of_memory, start)
-                                           : model_run_file_depth(&c, depth, file, file_length, want_memory, length_of_memory, start);
+    const uint32_t want = kind == RUN_FILE ? model_run_file(&c, file, file_length, a->want, a->length, start)
+                                           : model_run_file_depth(&c, depth, file, file_length, a->want, a->length, start);
     if (!want) model_to_image(&c, want_device);
     uint8_t *lent = own ? lend(&g_file, file, file_length) : (uint8_t *)file;
     const uint32_t got = kind == RUN_FILE ? call_run_file(lent, file_length, start) : call_run_file_depth(lent, file_length, start);
@@ -579,8 +732,8 @@ static uint32_t check_writer(const dcmi_writes *writes, const uint32_t *samples,
     const size_t compared = far_out ? 8192 : length;
     size_t want_written;
     size_t *written = lend_output(&g_output, &want_written, sizeof want_written);
-    uint8_t *model_out = far_out ? want_memory : want_out;
-    uint8_t *out = far_out ? lent_memory : lend_output(&g_out, want_out, length);
+    uint8_t *model_out = far_out ? a->want : want_out;
+    uint8_t *out = far_out ? a->lent : lend_output(&g_out, want_out, length);
     const uint32_t want = model_trace_write(writes->count, writes->offset, writes->value, samples, count, model_out, length, &want_written);
     uint32_t *lent = far_samples ? (uint32_t *)samples : lend(&g_samples, samples, 4 * count);
     const uint32_t got = call_writer(lent, out, written);

@@ -8,15 +8,18 @@ static_assert(DCMI_OK == 0 && DCMI_MALFORMED == 1 && DCMI_NO_REGISTER == 2 && DC
 static_assert(DCMI_UNSUPPORTED == 5 && DCMI_ENABLED == 6 && DCMI_SAMPLE_BITS == 7 && DCMI_SAMPLES == 8 && DCMI_START == 9, "refusals 5 to 9");
 static_assert(DCMI_MARK == 10 && DCMI_VERSION == 11 && DCMI_COUNT == 12 && DCMI_LENGTH == 13, "refusals of files");
 static_assert(DCMI_WRITES == 14 && DCMI_ROOM == 15, "refusals of the writer");
-static_assert(DCMI_DEPTH == 18, "refusal of a depth");
+static_assert(DCMI_MODE == 16 && DCMI_DEPTH == 18, "refusals of a mode and of a depth");
+static_assert(DCMI_NO_FRAME == 0 && DCMI_FRAME_IN_A == 1 && DCMI_FRAME_IN_B == 2 && DCMI_TOO_SHORT == 3, "frames handed back");
 static_assert(DCMI_CR == 0x00 && DCMI_SR == 0x04 && DCMI_RIS == 0x08 && DCMI_IER == 0x0C && DCMI_MIS == 0x10, "offsets");
 static_assert(DCMI_ICR == 0x14 && DCMI_ESCR == 0x18 && DCMI_ESUR == 0x1C && DCMI_CWSTRT == 0x20 && DCMI_CWSIZE == 0x24, "offsets");
 
 /* The layout that the library was built with. */
-static_assert(sizeof(dcmi_device) == 232 && sizeof(dcmi_answer) == 32 && sizeof(dcmi_item) == 32, "sizes");
-static_assert(DCMI_WORDS == 58 && DCMI_W_PARTIAL_BITS == 15 && DCMI_W_SLOT == 16 && DCMI_W_HELD == 48, "words of a device");
+static_assert(sizeof(dcmi_device) == 268 && sizeof(dcmi_answer) == 32 && sizeof(dcmi_frame) == 24 && sizeof(dcmi_item) == 32, "sizes");
+static_assert(DCMI_WORDS == 67 && DCMI_W_PARTIAL_BITS == 15 && DCMI_W_SLOT == 16 && DCMI_W_HELD == 48, "words of a device");
 static_assert(DCMI_W_DISCARDED == 53 && DCMI_W_DEPTH == 54 && DCMI_W_ESCR == 55 && DCMI_W_ESUR == 56, "words of a device");
-static_assert(DCMI_W_WAITING == DCMI_WORDS - 1, "words of a device");
+static_assert(DCMI_W_WAITING == 57 && DCMI_W_MODE == 58 && DCMI_W_PLACE_B == 59 && DCMI_W_IN_B == 60 && DCMI_W_OPENING == 61, "words of a device");
+static_assert(DCMI_W_TURN == 62 && DCMI_W_BEGUN == 63 && DCMI_W_FRAME_A == 64 && DCMI_W_FRAME_B == 65, "words of a device");
+static_assert(DCMI_W_LATEST == DCMI_WORDS - 1, "words of a device");
 
 /* Each expression is a call that must answer as said; the exit status is the number of the first that does not. */
 int main(void)
@@ -24,8 +27,9 @@ int main(void)
     static dcmi_device device;
     static dcmi_answer answer;
     static dcmi_item item;
+    static dcmi_frame frame;
     static dcmi_writes writes;
-    static uint8_t memory[16], file[64];
+    static uint8_t memory[16], other[8], file[64];
     uint32_t value = 0, line = 9, sample = 0x3FFFF;
     size_t written = 0;
 
@@ -46,13 +50,23 @@ int main(void)
     if (dcmi_reset_depth(&device, 33) != DCMI_DEPTH || device.word[DCMI_W_SAMPLES] != 1) return 12;
     if (dcmi_reset_depth(&device, 1) != DCMI_OK || device.word[DCMI_W_DEPTH] != 1 || device.word[DCMI_W_SAMPLES] != 0) return 13;
 
+    if (dcmi_two_buffers(&device) != DCMI_OK || device.word[DCMI_W_MODE] != 1) return 14;
+    if (dcmi_sample_two(&device, memory, sizeof memory, 0, other, sizeof other, 8, sample, &answer) != DCMI_OK || answer.landed != 0) return 15;
+    if (dcmi_run_two(&device, memory, sizeof memory, 0, other, sizeof other, 8, &sample, 1) != DCMI_OK || device.word[DCMI_W_SAMPLES] != 2) return 16;
+    if (dcmi_latest_frame(&device, sizeof memory, 0, sizeof other, 8, &frame) != DCMI_OK || frame.kind != DCMI_NO_FRAME) return 17;
+    if (dcmi_latest_frame(&device, sizeof memory, 0, sizeof other, 9, &frame) != DCMI_START) return 18;
+    if (dcmi_run(&device, memory, sizeof memory, 0, &sample, 1) != DCMI_MODE) return 19;
+
     /* Null pointers beside a length of 0. */
-    if (dcmi_sample(&device, NULL, 0, 0, sample, &answer) != DCMI_OK) return 14;
-    if (dcmi_run(&device, NULL, 0, 0, NULL, 0) != DCMI_OK) return 15;
-    if (dcmi_run_file(&device, NULL, 0, NULL, 0, 0) != DCMI_LENGTH) return 16;
-    if (dcmi_run_file_depth(&device, 4, NULL, 0, NULL, 0, 0) != DCMI_LENGTH) return 17;
-    if (dcmi_run_file_depth(&device, 0, NULL, 0, NULL, 0, 0) != DCMI_DEPTH) return 18;
-    if (dcmi_trace_write(&writes, NULL, 0, NULL, 0, &written) != DCMI_ROOM) return 19;
-    if (dcmi_trace_item(NULL, 0, 0, &item) != DCMI_LENGTH) return 20;
+    if (dcmi_sample_two(&device, NULL, 0, 0, NULL, 0, 0, sample, &answer) != DCMI_OK) return 20;
+    if (dcmi_run_two(&device, NULL, 0, 0, NULL, 0, 0, NULL, 0) != DCMI_OK) return 21;
+    if (dcmi_one_buffer(&device) != DCMI_OK || device.word[DCMI_W_MODE] != 0) return 22;
+    if (dcmi_sample(&device, NULL, 0, 0, sample, &answer) != DCMI_OK) return 23;
+    if (dcmi_run(&device, NULL, 0, 0, NULL, 0) != DCMI_OK) return 24;
+    if (dcmi_run_file(&device, NULL, 0, NULL, 0, 0) != DCMI_LENGTH) return 25;
+    if (dcmi_run_file_depth(&device, 4, NULL, 0, NULL, 0, 0) != DCMI_LENGTH) return 26;
+    if (dcmi_run_file_depth(&device, 0, NULL, 0, NULL, 0, 0) != DCMI_DEPTH) return 27;
+    if (dcmi_trace_write(&writes, NULL, 0, NULL, 0, &written) != DCMI_ROOM) return 28;
+    if (dcmi_trace_item(NULL, 0, 0, &item) != DCMI_LENGTH) return 29;
     return 0;
 }

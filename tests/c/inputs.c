@@ -88,6 +88,21 @@ void scene_cropped(scene *s, uint32_t cr, uint32_t *cwstrt, uint32_t *cwsize)
     *cwsize |= below(s->width - column);
 }
 
+void scene_small(scene *s, uint32_t cr)
+{
+    static const uint32_t grants[] = { 0, 0, 16, 64, 128, 256 };
+    *s = (scene){ .polarity = cr & 0xE0, .hold = 1 };
+    s->width = between(1, 9);
+    s->height = between(1, chance(1, 2) ? 1 : 3);
+    s->hblank = below(2);
+    s->vblank = between(1, 2);
+    s->grant = grants[below(6)];
+    s->pixels_first = chance(1, 2);
+    s->hsync_idle = chance(1, 2);
+    if (chance(1, 3)) s->width = cr & 0xC00 ? 2 : 4; /* frames of one word */
+    if (chance(1, 8)) s->width = between(20, 80);
+}
+
 uint32_t scene_sample(scene *s)
 {
     const bool working = s->part >= s->hold;
@@ -499,6 +514,41 @@ bool image_codes(uint32_t *w)
     return true;
 }
 
+void image_two(uint32_t *w)
+{
+    const uint32_t used = w[DCMI_W_HELD] < 32 ? (UINT32_C(1) << w[DCMI_W_HELD]) - 1 : UINT32_MAX;
+    w[DCMI_W_MODE] = 1;
+    w[DCMI_W_PLACE_B] = chance(1, 4) ? w[DCMI_W_PLACE] : up_to(w[DCMI_W_LANDED]);
+    w[DCMI_W_IN_B] = (chance(1, 4) ? below(2) * UINT32_MAX : random_u32()) & used;
+    w[DCMI_W_OPENING] = (chance(1, 4) ? below(2) : random_u32()) & used;
+    w[DCMI_W_TURN] = below(2);
+    w[DCMI_W_BEGUN] = below(2);
+    w[DCMI_W_FRAME_A] = below(3);
+    w[DCMI_W_FRAME_B] = below(3);
+    w[DCMI_W_LATEST] = below(2);
+    /* Places of few words, which there may be room for. */
+    if (chance(1, 2) && w[DCMI_W_PLACE] > 8) w[DCMI_W_PLACE] = below(8);
+    if (chance(1, 2) && w[DCMI_W_PLACE_B] > 8) w[DCMI_W_PLACE_B] = below(8);
+}
+
+/* W2: an unused slot goes to B or opens a frame; in mode one that is no device. */
+static void image_marks(uint32_t *w)
+{
+    const uint32_t held = w[DCMI_W_HELD];
+    if (held < 32) w[chance(1, 2) ? DCMI_W_IN_B : DCMI_W_OPENING] |= UINT32_C(1) << between(held, 31);
+}
+
+/* W2: a word of mode two, beyond what it can be, or any. */
+static void image_turns(uint32_t *w)
+{
+    static const struct { uint8_t word, most; } bounded[] = {
+        { DCMI_W_MODE, 1 }, { DCMI_W_TURN, 1 }, { DCMI_W_BEGUN, 1 }, { DCMI_W_FRAME_A, 2 }, { DCMI_W_FRAME_B, 2 }, { DCMI_W_LATEST, 1 },
+    };
+    const unsigned i = below(6);
+    if (chance(1, 3)) w[between(DCMI_W_MODE, DCMI_W_LATEST)] = chance(1, 2) ? 1 + below(3) : random_u32();
+    else w[bounded[i].word] = bounded[i].most + 1 + (chance(1, 2) ? 0 : below(UINT32_MAX - 3));
+}
+
 /* JPEG with what it excludes: what the image has of it, or something of it more. */
 static void image_no_jpeg(uint32_t *w)
 {
@@ -566,7 +616,11 @@ static unsigned any_word(void)
 
 void image_damage(uint32_t *w)
 {
-    switch (below(26)) {
+    switch (below(32)) {
+    case 26: case 27: image_marks(w); return;
+    case 28: case 29: image_turns(w); return;
+    case 30: w[DCMI_W_PLACE_B] = w[DCMI_W_LANDED] + 1 + (chance(1, 2) ? 0 : below(1000)); return;
+    case 31: w[DCMI_W_PLACE] = w[DCMI_W_LANDED] + 1; return;
     case 0: image_wrap(w); return;
     case 1: case 2: image_overfull(w); return;
     case 3: w[DCMI_W_DEPTH] = bad_depth(); return;

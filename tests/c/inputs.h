@@ -34,6 +34,8 @@ void scene_make(scene *s, uint32_t cr);
 void scene_full(scene *s, uint32_t cr);
 /* One whose picture has a window in it, and most of whose words find a grant. */
 void scene_cropped(scene *s, uint32_t cr, uint32_t *cwstrt, uint32_t *cwsize);
+/* One of few pixels, whose frames have no word or a few. */
+void scene_small(scene *s, uint32_t cr);
 uint32_t scene_sample(scene *s);
 void scene_samples(scene *s, uint32_t *samples, size_t count);
 
@@ -80,6 +82,8 @@ bool image_window(uint32_t *image);
 bool image_compressed(uint32_t *image);
 /* One with ENABLE 1 gets ESS 1, EDM 0 and JPEG 0, often few pixels; the next sample can be a working edge. False if it has ENABLE 0, or no sample is left. */
 bool image_codes(uint32_t *image);
+/* One in mode one becomes one in mode two, with any turn, places, frames, and anything that the held words carry. */
+void image_two(uint32_t *image);
 /* One word becomes something else; the device is mostly malformed then. */
 void image_damage(uint32_t *image);
 /* Values for a word of an image that lie near a bound; returns how many. */

@@ -57,12 +57,14 @@ static inline void close_frame(camera *c)
     c->data = c->partial = 0;
 }
 
-/* All held words are discarded. */
+/* All held words are discarded. W2: what they carry goes with them, and the open frame, which is closed without rule 4, never becomes complete. */
 static inline void empty_fifo(camera *c)
 {
     c->discarded += c->held;
     memset(c->fifo, 0, c->held * sizeof *c->fifo);
     c->held = 0;
+    c->in_b = c->opening = 0;
+    c->begun = false;
 }
 
 /* Writing CR. CAPTURE cleared inside an open frame: the frame goes on, so nothing is done. W6: no bytes wait after enabling and disabling. */
@@ -94,20 +96,80 @@ static inline uint8_t *put(uint8_t *bytes, uint32_t value, unsigned count)
     return bytes;
 }
 
-/* Rule 1. Grant: with ENABLE 1, a word held and room for it, the oldest held word goes to memory. */
-static inline void grant(camera *c, uint8_t *memory, size_t length, size_t start, outcome *out)
+/* Rule 1. Grant: with ENABLE 1, a word held and room for it, the oldest held word goes to memory, at the place where it is to land. Whether it does. */
+static inline bool land(camera *c, uint8_t *memory, size_t length, size_t start, uint32_t place, outcome *out)
 {
-    const uint64_t at = 4 * (uint64_t)c->place;
-    if (!(c->cr & ENABLE) || c->held == 0 || at + 4 > length - start) return;
+    const uint64_t at = 4 * (uint64_t)place;
+    if (!(c->cr & ENABLE) || c->held == 0 || at + 4 > length - start) return false;
     put(memory + start + at, c->fifo[0], 4);
     c->held--;
     if (c->held) memmove(c->fifo, c->fifo + 1, c->held * sizeof *c->fifo);
     c->fifo[c->held] = 0;
-    c->place++;
     c->landed++;
-    out->landed = true;
     out->byte = start + at;
+    return true;
 }
+
+static inline void grant(camera *c, uint8_t *memory, size_t length, size_t start, outcome *out)
+{
+    if (!land(c, memory, length, start, c->place[BUFFER_A], out)) return;
+    c->place[BUFFER_A]++;
+    out->landed = LANDED_A;
+}
+
+/* ---- Two frame buffers in turn, W2 ---- */
+
+static buffer other(buffer of) { return of == BUFFER_A ? BUFFER_B : BUFFER_A; }
+
+/* A frame has ended and all its words have landed: it is complete, if that was since the last re-arming. */
+static void becomes_complete(camera *c, buffer of)
+{
+    if (c->in[of] != CONTENT_LANDING) return;
+    c->in[of] = CONTENT_COMPLETE;
+    c->latest = of;
+}
+
+/* Rule 1. The oldest held word goes to its own buffer: to place 0 if it opens a frame, and the frame that was there is complete no more. No word of its
+ * frame is behind it if the next one opens another; or if none is held and it is not the open frame's. */
+static void grant_two(camera *c, const lent both[BUFFERS], outcome *out)
+{
+    const buffer to = c->in_b & 1 ? BUFFER_B : BUFFER_A;
+    const bool opens = c->opening & 1;
+    const uint32_t place = opens ? 0 : c->place[to];
+    if (!land(c, both[to].memory, both[to].length, both[to].start, place, out)) return;
+    out->landed = to == BUFFER_A ? LANDED_A : LANDED_B;
+    c->place[to] = place + 1;
+    if (opens) c->in[to] = CONTENT_LANDING;
+    c->in_b >>= 1;
+    c->opening >>= 1;
+    if (c->held ? c->opening & 1 : !c->begun) becomes_complete(c, to);
+}
+
+/* Rule 9. The first word that a frame completes switches to the other buffer, also if it is lost. Whether this word is one. */
+static bool switches(camera *c)
+{
+    if (c->begun) return false;
+    c->begun = true;
+    c->turn = other(c->turn);
+    return true;
+}
+
+/* A word that is held next carries its buffer and whether it opens a frame. */
+static void carries(camera *c, bool opens)
+{
+    const uint32_t bit = UINT32_C(1) << c->held;
+    if (c->turn == BUFFER_B) c->in_b |= bit;
+    if (opens) c->opening |= bit;
+}
+
+/* Rule 4 has ended the open frame. With words held that is not yet all: if they are of this frame, it becomes complete where the last of them lands. */
+static void ended(camera *c)
+{
+    if (c->begun && c->held == 0) becomes_complete(c, c->turn);
+    c->begun = false;
+}
+
+/* ---- One sample, from rule 2 on ---- */
 
 /* Rule 2. Working edge: the clock fell (PCKPOL 0) or rose (PCKPOL 1) since the last sample. */
 static inline bool working_edge(const camera *c, uint32_t pins)
@@ -137,11 +199,14 @@ static inline bool complete(camera *c, uint32_t word, outcome *out);
 static inline bool pad(camera *c, outcome *out) { return !(c->cr & JPEG) || c->data == 0 || complete(c, c->partial, out); }
 
 /* Rule 4. Frame end: an open frame closes when VSYNC blanks. A snapshot's CAPTURE is cleared, W1: also if FRAME rose before. W4: padding comes before
- * FRAME, which does not rise if the padded word is lost. An untaken frame has no partial word. */
+ * FRAME, which does not rise if the padded word is lost; W2: nor has the frame then ended by this rule. An untaken frame has no partial word. */
 static void frame_end(camera *c, uint32_t blanked, uint32_t blanks, outcome *out)
 {
     const bool taken = c->frame == FRAME_TAKEN, rises = taken && frame_rises(c, blanked, blanks);
-    if (pad(c, out) && rises) c->ris |= F_FRAME;
+    if (pad(c, out)) {
+        if (rises) c->ris |= F_FRAME;
+        if (c->mode == MODE_TWO) ended(c);
+    }
     if (taken && (c->cr & CM)) c->cr &= ~(uint32_t)CAPTURE;
     close_frame(c);
 }
@@ -191,8 +256,10 @@ static inline bool pack(camera *c, uint32_t sample, uint32_t *word)
 /* Rule 9. A full word is completed: held, or, W9, with as many held as the depth, lost with them. Whether it is held. */
 static inline bool complete(camera *c, uint32_t word, outcome *out)
 {
+    const bool opens = c->mode == MODE_TWO && switches(c);
     c->completed++;
     if (c->held < c->depth) {
+        if (c->mode == MODE_TWO) carries(c, opens);
         c->fifo[c->held++] = word;
         out->packed = PACKED_WORD;
         out->word = word;
@@ -333,15 +400,11 @@ __attribute__((noinline)) static void arrive(camera *c, uint32_t byte, outcome *
     if (byte != 0xFF) take_byte(c, byte, 0, out);
 }
 
-/* An accepted sample: the rules in order. *out is written only where it says that something happened. */
-static inline void step(camera *c, uint8_t *memory, size_t length, size_t start, uint32_t sample, outcome *out)
+/* Rules 2 to 9 of an accepted sample, in order. *out is written only where it says that something happened. */
+static inline void step_on(camera *c, uint32_t sample, outcome *out)
 {
     const uint32_t pins = sample >> 14 & (HSYNC | VSYNC | CLOCK);
     uint32_t word;
-    c->samples++;
-
-    /* Rule 1. */
-    if (sample >> 17 & 1) grant(c, memory, length, start, out);
 
     /* Rule 2. Each sample leaves its levels remembered, one that goes on also whether each sync blanks. */
     const bool goes_on = working_edge(c, pins) && (c->cr & ENABLE);
@@ -377,6 +440,21 @@ static inline void step(camera *c, uint8_t *memory, size_t length, size_t start,
     if (captured(c, c->lines - 1, c->pixels - 1) && pack(c, sample, &word)) complete(c, word, out);
 }
 
+/* An accepted sample: rule 1, and the others. W2: the same over two memories. */
+static inline void step(camera *c, uint8_t *memory, size_t length, size_t start, uint32_t sample, outcome *out)
+{
+    c->samples++;
+    if (sample >> 17 & 1) grant(c, memory, length, start, out);
+    step_on(c, sample, out);
+}
+
+static inline void step_two(camera *c, const lent both[BUFFERS], uint32_t sample, outcome *out)
+{
+    c->samples++;
+    if (sample >> 17 & 1) grant_two(c, both, out);
+    step_on(c, sample, out);
+}
+
 /* ---- Refusal numbers ---- */
 
 /* 5: CR contents. W4: JPEG 1 with EDM 0 and CROP 0 only. W6: ESS 1 with EDM 0 and JPEG 0 only. */
@@ -401,16 +479,25 @@ static bool bad_sample(const uint32_t *samples, size_t count)
     return all >> 18;
 }
 
+/* 9. W2: of two memories, either start above its own length. */
+static bool bad_starts(const lent both[BUFFERS])
+{
+    return both[BUFFER_A].start > both[BUFFER_A].length || both[BUFFER_B].start > both[BUFFER_B].length;
+}
+
 /* 18, and a clause of malformed. W9. */
 static bool bad_depth(uint32_t depth) { return depth == 0 || depth > 32; }
 
-/* Malformed, 1: the clauses of its paragraph. W9: the depth for four; slots beyond the depth are unused too. */
+/* Malformed, 1: the clauses of its paragraph. W9: the depth for four; slots beyond the depth are unused too. W2: both places. */
 static bool unused_slot(const camera *c)
 {
     for (uint32_t i = c->held; i < SLOTS; i++)
         if (c->fifo[i]) return true;
     return false;
 }
+
+/* W2: what an unused slot carries. */
+static bool unused_marks(const camera *c) { return c->held < SLOTS && (c->in_b | c->opening) >> c->held; }
 
 static bool unused_partial_bits(const camera *c)
 {
@@ -423,7 +510,7 @@ static bool malformed(const camera *c)
 {
     return bad_depth(c->depth)
         || c->held > c->depth
-        || unused_slot(c) || unused_partial_bits(c)
+        || unused_slot(c) || unused_marks(c) || unused_partial_bits(c)
         || c->data >= 32 / lane_bits(c->cr)
         || (c->cr & ~bits_of(CR)) || (c->cwstrt & ~bits_of(CWSTRT)) || (c->cwsize & ~bits_of(CWSIZE)) || unsupported(c->cr)
         || c->ris > 31 || c->ier > 31
@@ -431,7 +518,7 @@ static bool malformed(const camera *c)
         || (c->data && c->frame != FRAME_TAKEN)
         || c->rate >= 1u << fcrc(c->cr)
         || c->lines > c->samples || c->pixels > c->samples || c->completed > c->samples
-        || c->place > c->landed
+        || c->place[BUFFER_A] > c->landed || c->place[BUFFER_B] > c->landed
         || c->completed != (uint64_t)c->landed + c->held + c->discarded;
 }
 
@@ -446,11 +533,12 @@ static uint32_t write_refusal(const camera *c, uint32_t offset, uint32_t value)
     return 0;
 }
 
-/* The order 1, 9, 7, 8 for a run or one sample. */
-static uint32_t run_refusal(const camera *c, size_t length, size_t start, const uint32_t *samples, size_t count)
+/* The order 1, W2: 16, 9, 7, 8 for a run or one sample, over one memory or two. */
+static uint32_t run_refusal(const camera *c, buffer_mode mode, bool bad_start, const uint32_t *samples, size_t count)
 {
     if (malformed(c)) return 1;
-    if (start > length) return 9;
+    if (c->mode != mode) return 16;
+    if (bad_start) return 9;
     if (bad_sample(samples, count)) return 7;
     if (count > UINT32_MAX - c->samples) return 8;
     return 0;
@@ -517,16 +605,54 @@ uint32_t model_interrupt(const camera *c, bool *up)
     return 0;
 }
 
+/* W2: both places, and no frame is complete. The turn stays. */
+static void rearm(camera *c)
+{
+    c->place[BUFFER_A] = c->place[BUFFER_B] = 0;
+    c->in[BUFFER_A] = c->in[BUFFER_B] = CONTENT_NONE;
+}
+
 uint32_t model_rearm(camera *c)
 {
     if (malformed(c)) return 1;
-    c->place = 0;
+    rearm(c);
+    return 0;
+}
+
+/* W2: 1, 6. Also the same mode is set anew; the next frame with a word goes to A. A disabled device holds no word. */
+static uint32_t set_mode(camera *c, buffer_mode mode)
+{
+    if (malformed(c)) return 1;
+    if (c->cr & ENABLE) return 6;
+    rearm(c);
+    c->mode = mode;
+    c->turn = mode == MODE_TWO ? BUFFER_B : BUFFER_A;
+    c->begun = false;
+    c->latest = BUFFER_A;
+    return 0;
+}
+
+uint32_t model_one_buffer(camera *c) { return set_mode(c, MODE_ONE); }
+uint32_t model_two_buffers(camera *c) { return set_mode(c, MODE_TWO); }
+
+/* W2: of the frames that are complete now the one that became so last. 1, 16, 9. "Too short" is about its memory alone. */
+uint32_t model_latest_frame(const camera *c, const lent both[BUFFERS], handed *out)
+{
+    if (malformed(c)) return 1;
+    if (c->mode != MODE_TWO) return 16;
+    if (bad_starts(both)) return 9;
+    *out = (handed){ .kind = HANDED_NONE };
+    const buffer of = c->in[c->latest] == CONTENT_COMPLETE ? c->latest : other(c->latest);
+    if (c->in[of] != CONTENT_COMPLETE) return 0;
+    const uint64_t bytes = 4 * (uint64_t)c->place[of];
+    if (bytes > both[of].length - both[of].start) out->kind = HANDED_TOO_SHORT;
+    else *out = (handed){ of == BUFFER_A ? HANDED_A : HANDED_B, both[of].start, bytes };
     return 0;
 }
 
 uint32_t model_sample(camera *c, uint8_t *memory, size_t length, size_t start, uint32_t sample, outcome *out)
 {
-    const uint32_t refusal = run_refusal(c, length, start, &sample, 1);
+    const uint32_t refusal = run_refusal(c, MODE_ONE, start > length, &sample, 1);
     if (refusal) return refusal;
     *out = (outcome){ 0 };
     step(c, memory, length, start, sample, out);
@@ -535,10 +661,28 @@ uint32_t model_sample(camera *c, uint8_t *memory, size_t length, size_t start, u
 
 uint32_t model_run(camera *c, uint8_t *memory, size_t length, size_t start, const uint32_t *samples, size_t count)
 {
-    const uint32_t refusal = run_refusal(c, length, start, samples, count);
+    const uint32_t refusal = run_refusal(c, MODE_ONE, start > length, samples, count);
     outcome unused;
     if (refusal) return refusal;
     for (size_t i = 0; i < count; i++) step(c, memory, length, start, samples[i], &unused);
+    return 0;
+}
+
+uint32_t model_sample_two(camera *c, const lent both[BUFFERS], uint32_t sample, outcome *out)
+{
+    const uint32_t refusal = run_refusal(c, MODE_TWO, bad_starts(both), &sample, 1);
+    if (refusal) return refusal;
+    *out = (outcome){ 0 };
+    step_two(c, both, sample, out);
+    return 0;
+}
+
+uint32_t model_run_two(camera *c, const lent both[BUFFERS], const uint32_t *samples, size_t count)
+{
+    const uint32_t refusal = run_refusal(c, MODE_TWO, bad_starts(both), samples, count);
+    outcome unused;
+    if (refusal) return refusal;
+    for (size_t i = 0; i < count; i++) step_two(c, both, samples[i], &unused);
     return 0;
 }
 
@@ -666,21 +810,34 @@ uint32_t model_trace_item(const uint8_t *file, size_t length, size_t place, trac
 
 /* ---- Device images, of which the paper says nothing: see dcmi.h ---- */
 
+/* W2: in mode one the words of mode two are 0. */
+static bool no_mode(const uint32_t *w)
+{
+    uint32_t any = 0;
+    for (unsigned i = DCMI_W_PLACE_B; i <= DCMI_W_LATEST; i++) any |= w[i];
+    if (w[DCMI_W_MODE] == 0) return any != 0;
+    return w[DCMI_W_MODE] > 1 || w[DCMI_W_TURN] > 1 || w[DCMI_W_BEGUN] > 1 || w[DCMI_W_FRAME_A] > 2 || w[DCMI_W_FRAME_B] > 2 || w[DCMI_W_LATEST] > 1;
+}
+
 bool model_from_image(camera *c, const uint32_t *w)
 {
     if (w[DCMI_W_HSYNC] > 1 || w[DCMI_W_VSYNC] > 1 || w[DCMI_W_CLOCK] > 1) return false;
     if (w[DCMI_W_HSYNC_BLANKED] > 1 || w[DCMI_W_VSYNC_BLANKED] > 1) return false;
     if (w[DCMI_W_FRAME] > 2 || w[DCMI_W_WAITING] > 3) return false;
     if (w[DCMI_W_FRAME] == 0 && (w[DCMI_W_LINES] || w[DCMI_W_PIXELS])) return false;
+    if (no_mode(w)) return false;
     *c = (camera){
         .cr = w[DCMI_W_CR], .ris = w[DCMI_W_RIS], .ier = w[DCMI_W_IER], .cwstrt = w[DCMI_W_CWSTRT], .cwsize = w[DCMI_W_CWSIZE],
         .escr = w[DCMI_W_ESCR], .esur = w[DCMI_W_ESUR], .waiting = w[DCMI_W_WAITING],
         .pins = w[DCMI_W_HSYNC] | w[DCMI_W_VSYNC] << 1 | w[DCMI_W_CLOCK] << 2,
         .blanked = w[DCMI_W_HSYNC_BLANKED] | w[DCMI_W_VSYNC_BLANKED] << 1,
         .frame = (frame_state)w[DCMI_W_FRAME], .lines = w[DCMI_W_LINES], .pixels = w[DCMI_W_PIXELS], .rate = w[DCMI_W_RATE],
-        .data = w[DCMI_W_PARTIAL_COUNT], .partial = w[DCMI_W_PARTIAL_BITS], .held = w[DCMI_W_HELD], .place = w[DCMI_W_PLACE],
+        .data = w[DCMI_W_PARTIAL_COUNT], .partial = w[DCMI_W_PARTIAL_BITS], .held = w[DCMI_W_HELD],
+        .place = { w[DCMI_W_PLACE], w[DCMI_W_PLACE_B] },
         .samples = w[DCMI_W_SAMPLES], .completed = w[DCMI_W_COMPLETED], .landed = w[DCMI_W_LANDED], .discarded = w[DCMI_W_DISCARDED],
         .depth = w[DCMI_W_DEPTH],
+        .mode = (buffer_mode)w[DCMI_W_MODE], .in_b = w[DCMI_W_IN_B], .opening = w[DCMI_W_OPENING], .turn = (buffer)w[DCMI_W_TURN],
+        .begun = w[DCMI_W_BEGUN], .in = { (content)w[DCMI_W_FRAME_A], (content)w[DCMI_W_FRAME_B] }, .latest = (buffer)w[DCMI_W_LATEST],
     };
     memcpy(c->fifo, w + DCMI_W_SLOT, sizeof c->fifo);
     return true;
@@ -706,7 +863,7 @@ void model_to_image(const camera *c, uint32_t *w)
     w[DCMI_W_PARTIAL_BITS] = c->partial;
     memcpy(w + DCMI_W_SLOT, c->fifo, sizeof c->fifo);
     w[DCMI_W_HELD] = c->held;
-    w[DCMI_W_PLACE] = c->place;
+    w[DCMI_W_PLACE] = c->place[BUFFER_A];
     w[DCMI_W_SAMPLES] = c->samples;
     w[DCMI_W_COMPLETED] = c->completed;
     w[DCMI_W_LANDED] = c->landed;
@@ -715,4 +872,13 @@ void model_to_image(const camera *c, uint32_t *w)
     w[DCMI_W_ESCR] = c->escr;
     w[DCMI_W_ESUR] = c->esur;
     w[DCMI_W_WAITING] = c->waiting;
+    w[DCMI_W_MODE] = c->mode;
+    w[DCMI_W_PLACE_B] = c->place[BUFFER_B];
+    w[DCMI_W_IN_B] = c->in_b;
+    w[DCMI_W_OPENING] = c->opening;
+    w[DCMI_W_TURN] = c->turn;
+    w[DCMI_W_BEGUN] = c->begun;
+    w[DCMI_W_FRAME_A] = c->in[BUFFER_A];
+    w[DCMI_W_FRAME_B] = c->in[BUFFER_B];
+    w[DCMI_W_LATEST] = c->latest;
 }

@@ -1,4 +1,5 @@
 /* W4: JPEG pictures sent as an imager sends them, through the library. Memory must hold each file, byte for byte, and the zeros that fill its last word.
+ * W2: so must each of two memories, in turn.
  *
  *   pictures FILE FOLDER
  *
@@ -261,6 +262,46 @@ static void uncompressed(void)
     expect("a word fewer for each of four", words_of(PICTURES, true) - 4, words_of(PICTURES, false));
 }
 
+/* W2: the pictures in turn to A and B, in runs of a few hundred samples. What is handed back between them is none or a whole picture, the last that came. */
+static void in_turn(void)
+{
+    static uint8_t memory_b[MEMORY];
+    dcmi_device device;
+    part = "two buffers in turn";
+    for (unsigned n = 0; n < 32 * GRANTS; n++) {
+        const uint32_t depth = 1 + n % 32;
+        const size_t start_a = below(40), start_b = below(40);
+        unsigned shown = 0;
+        send_pictures(PICTURES, n % 2 ? &one_packet : &packets_of, depth, (granting)(n / 32));
+        memset(memory, BESIDE, sizeof memory);
+        memset(memory_b, BESIDE, sizeof memory_b);
+        expect("a device", DCMI_OK, dcmi_reset_depth(&device, depth));
+        expect("two buffers", DCMI_OK, dcmi_two_buffers(&device));
+        expect("CR", DCMI_OK, dcmi_write(&device, DCMI_CR, CONTINUOUS));
+        for (size_t i = 0; i < sent;) {
+            const size_t few = between(1, 400), count = few < sent - i ? few : sent - i;
+            dcmi_frame frame;
+            expect("the run", DCMI_OK, dcmi_run_two(&device, memory, sizeof memory, start_a, memory_b, sizeof memory_b, start_b, samples + i, count));
+            expect("handing back", DCMI_OK, dcmi_latest_frame(&device, sizeof memory, start_a, sizeof memory_b, start_b, &frame));
+            i += count;
+            if (frame.kind == DCMI_NO_FRAME && !shown) continue;
+            const uint64_t last_kind = shown % 2 ? DCMI_FRAME_IN_A : DCMI_FRAME_IN_B;
+            if (!shown || frame.kind != last_kind) shown++;
+            const unsigned p = shown - 1;
+            const uint8_t *from = p % 2 ? memory_b : memory;
+            expect("A or B", p % 2 ? DCMI_FRAME_IN_B : DCMI_FRAME_IN_A, frame.kind);
+            expect("the start", p % 2 ? start_b : start_a, frame.offset);
+            expect("the length", (pictures[p].length + 3) / 4 * 4, frame.length);
+            for (size_t k = 0; k < frame.length; k++) expect("a byte", k < pictures[p].length ? pictures[p].byte[k] : 0, from[frame.offset + k]);
+        }
+        expect("pictures shown", PICTURES, shown);
+        expect("landed", words_of(PICTURES, true), device.word[DCMI_W_LANDED]);
+        expect("a byte before A", start_a ? BESIDE : memory[0], memory[0]);
+        expect("a byte behind them", BESIDE, memory[start_a + MOST_BYTES]);
+        expect("a byte behind them", BESIDE, memory_b[start_b + MOST_BYTES]);
+    }
+}
+
 static FILE *made(const char *folder, const char *name, unsigned number, const char *end)
 {
     char path[512];
@@ -326,10 +367,12 @@ int main(int count, char **arguments)
     singles();
     snapshots();
     uncompressed();
+    in_turn();
     files(arguments[2]);
     printf("Compressed pictures: %s, %zu bytes, and four copies with 0 to 3 bytes left over at their end, landed byte for byte, then zeros:\n", arguments[1],
            pictures[0].length);
     printf("  by dcmi_run at every depth d, with d grants in every 4d samples; one by one, no word lost, each within 4d samples, down to four apart;\n");
     printf("  as snapshots; from trace files of versions 1 and 2. The end of each is found in its last word; with JPEG 0 that word is missing.\n");
+    printf("  Two buffers in turn: what dcmi_latest_frame hands back between runs is no picture or the last whole one, at every depth.\n");
     return 0;
 }

@@ -4,11 +4,12 @@
 #include <stdio.h>
 #include <string.h>
 
+#include "frames.h"
 #include "model.h"
 
 const char *const call_name[CALLS] = {
-    "dcmi_reset", "dcmi_reset_depth", "dcmi_write", "dcmi_read", "dcmi_interrupt", "dcmi_rearm", "dcmi_sample", "dcmi_run", "dcmi_run_file",
-    "dcmi_run_file_depth", "dcmi_trace_write", "dcmi_trace_item",
+    "dcmi_reset", "dcmi_reset_depth", "dcmi_write", "dcmi_read", "dcmi_interrupt", "dcmi_rearm", "dcmi_one_buffer", "dcmi_two_buffers", "dcmi_latest_frame",
+    "dcmi_sample", "dcmi_sample_two", "dcmi_run", "dcmi_run_two", "dcmi_run_file", "dcmi_run_file_depth", "dcmi_trace_write", "dcmi_trace_item",
 };
 
 /* ---- what is to be reached ---- */
@@ -269,6 +270,149 @@ const char *const call_name[CALLS] = {
     X(W6_FRAME_RUN, "W6: a frame end with FRAME raised inside a run") \
     X(W6_FRAME_FILE, "W6: a frame end with FRAME raised inside a file") \
     X(W6_FRAME_FILE_2, "W6: a frame end with FRAME raised inside a file of version 2") \
+    X(W2_SET_TWO, "W2: two buffers set, from one") \
+    X(W2_SET_TWO_AGAIN, "W2: two set again: both places 0, no frame complete") \
+    X(W2_SET_TWO_TURN, "W2: two set again: the next frame goes to A, not to B") \
+    X(W2_SET_TWO_BEGUN, "W2: two set again: no frame has begun") \
+    X(W2_SET_ONE, "W2: one buffer set, from two: place 0") \
+    X(W2_SET_ONE_AGAIN, "W2: one set again: place 0") \
+    X(W2_SET_TWO_IN_ONE, "W2: two set while enabled, in mode one: 6") \
+    X(W2_SET_TWO_IN_TWO, "W2: two set while enabled, in mode two: 6") \
+    X(W2_SET_ONE_IN_ONE, "W2: one set while enabled, in mode one: 6") \
+    X(W2_SET_ONE_IN_TWO, "W2: one set while enabled, in mode two: 6") \
+    X(W2_MADE_RESET, "W2: dcmi_reset over a device in mode two: mode one") \
+    X(W2_MADE_DEPTH, "W2: dcmi_reset_depth over a device in mode two: mode one") \
+    X(W2_MADE_FILE, "W2: a file over a device in mode two: mode one") \
+    X(W2_WRITE, "W2: dcmi_write accepted in mode two") \
+    X(W2_READ, "W2: dcmi_read accepted in mode two") \
+    X(W2_INTERRUPT, "W2: dcmi_interrupt accepted in mode two") \
+    X(W2_REARM, "W2: dcmi_rearm accepted in mode two") \
+    X(W2_EMPTY_ONE, "W2: a run of no sample over one memory in mode two: 16") \
+    X(W2_EMPTY_TWO, "W2: a run of no sample over two memories in mode one: 16") \
+    X(W2_ONLY_SAMPLE, "W2: one sample over one memory in mode two: 16, and nothing else") \
+    X(W2_ONLY_RUN, "W2: a run over one memory in mode two: 16, and nothing else") \
+    X(W2_ONLY_SAMPLE_TWO, "W2: one sample over two in mode one: 16, and nothing else") \
+    X(W2_ONLY_RUN_TWO, "W2: a run over two memories in mode one: 16, and nothing else") \
+    X(W2_ONLY_LATEST, "W2: handing back in mode one: 16, and nothing else") \
+    X(W2_START_A_SAMPLE, "W2: one sample, the start of A alone above its length: 9") \
+    X(W2_START_B_SAMPLE, "W2: one sample, the start of B alone above its length: 9") \
+    X(W2_START_A_RUN, "W2: a run, the start of A alone above its length: 9") \
+    X(W2_START_B_RUN, "W2: a run, the start of B alone above its length: 9") \
+    X(W2_START_A_LATEST, "W2: handing back, the start of A alone above its length: 9") \
+    X(W2_START_B_LATEST, "W2: handing back, the start of B alone above its length: 9") \
+    X(W2_START_OTHER_A, "W2: the start of A above the length of B, not its own: accepted") \
+    X(W2_START_OTHER_B, "W2: the start of B above the length of A, not its own: accepted") \
+    X(W2_START_ENDS, "W2: both starts at their lengths: accepted") \
+    X(W2_START_EMPTY, "W2: a run of no sample, a start above its length: 9") \
+    X(W2_FIRST, "W2: the first word after a mode change goes to A") \
+    X(W2_FIRST_LATER, "W2: so where the first frame after it completed no word") \
+    X(W2_TO_A, "W2: a frame's first word is held, the turn goes to A") \
+    X(W2_TO_B, "W2: a frame's first word is held, the turn goes to B") \
+    X(W2_TO_PADDED, "W2: a padded word is the frame's first") \
+    X(W2_TO_RELEASED, "W2: a word of released bytes is the frame's first") \
+    X(W2_LATER_A, "W2: a later word of a frame for A is held, no switch") \
+    X(W2_LATER_B, "W2: a later word of a frame for B is held, no switch") \
+    X(W2_OLD_STAYS, "W2: a first word is held for a buffer whose frame stays complete") \
+    X(W2_LOST_TO_A, "W2: a frame's first word is lost, the turn goes to A all the same") \
+    X(W2_LOST_TO_B, "W2: a frame's first word is lost, the turn goes to B all the same") \
+    X(W2_LOST_LATER, "W2: a later word is lost, no switch") \
+    X(W2_LOST_LANDING, "W2: overrun after words of the frame landed: not complete") \
+    X(W2_LOST_ENDED, "W2: overrun discards words of a frame that has ended: not complete") \
+    X(W2_LOST_COMPLETE, "W2: overrun leaves complete frames") \
+    X(W2_LOST_PADDED, "W2: a padded word is lost, others of the frame landed: not complete") \
+    X(W2_LOST_PADDED_FIRST, "W2: a padded word that is the frame's first is lost, switch") \
+    X(W2_OPENS_A, "W2: an opening word lands at place 0 of A, the place was above 0") \
+    X(W2_OPENS_B, "W2: an opening word lands at place 0 of B, the place was above 0") \
+    X(W2_OPENS_0, "W2: an opening word lands, the place was 0") \
+    X(W2_OPENS_BEYOND, "W2: an opening word lands, at the place was no room") \
+    X(W2_LANDS_A, "W2: a later word lands at the place of A, above 0") \
+    X(W2_LANDS_B, "W2: a later word lands at the place of B, above 0") \
+    X(W2_LANDS_REARMED, "W2: a later word lands at place 0, after a re-arming") \
+    X(W2_LANDS_END, "W2: a word lands in the last four bytes of its memory") \
+    X(W2_LANDS_START, "W2: a word lands at B from a start above 0 on, that of A is another") \
+    X(W2_LANDS_OTHER, "W2: a landing leaves the other place, above 0") \
+    X(W2_LANDS_FAR, "W2: a word lands in B beyond 4 GiB") \
+    X(W2_NO_ROOM_A, "W2: granted, no room in A, in B there is") \
+    X(W2_NO_ROOM_B, "W2: granted, no room in B, in A there is") \
+    X(W2_NO_ROOM_OPENING, "W2: granted, no room for an opening word") \
+    X(W2_NO_ROOM_LATER, "W2: granted, no room for a later word, at place 0 there is") \
+    X(W2_NO_ROOM_BEHIND, "W2: granted, no room; the word behind goes to the other and waits") \
+    X(W2_CEASES_A, "W2: an opening word lands, the frame in A is complete no more") \
+    X(W2_CEASES_B, "W2: an opening word lands, the frame in B is complete no more") \
+    X(W2_CEASES_AT_ONCE, "W2: a frame of one word lands on a complete one, complete at once") \
+    X(W2_END_A, "W2: frame end, all words landed before: complete in A") \
+    X(W2_END_B, "W2: frame end, all words landed before: complete in B") \
+    X(W2_END_LANDED, "W2: the last word lands in the frame end's sample: complete") \
+    X(W2_END_HELD, "W2: frame end with words held: not complete yet") \
+    X(W2_END_BEHIND, "W2: frame end, held are also words of an earlier frame") \
+    X(W2_END_EMPTY_A, "W2: a taken frame without a word ends, the turn stays A") \
+    X(W2_END_EMPTY_B, "W2: a taken frame without a word ends, the turn stays B") \
+    X(W2_END_UNTAKEN, "W2: an untaken frame ends, nothing changes") \
+    X(W2_END_REARMED, "W2: frame end, a word landed before a re-arming: not complete") \
+    X(W2_END_PADDED, "W2: frame end, padded and held: not complete yet") \
+    X(W2_END_PADDED_LANDED, "W2: so where the word before lands in that sample") \
+    X(W2_END_CODE, "W2: a frame end code: complete") \
+    X(W2_END_SNAPSHOT, "W2: frame end, CM 1, CAPTURE cleared: complete") \
+    X(W2_END_CAPTURE_0, "W2: frame end, CAPTURE was cleared inside the frame: complete") \
+    X(W2_END_WINDOW, "W2: frame end after an early FRAME: complete") \
+    X(W2_END_BOTH, "W2: frame end: complete, and the other frame is too") \
+    X(W2_END_IMAGE, "W2: frame end, the frame in the buffer is complete already") \
+    X(W2_EARLY, "W2: W1: FRAME rises early, all words have landed: not complete yet") \
+    X(W2_LAST_A, "W2: the last word lands after the end, none held: complete in A") \
+    X(W2_LAST_B, "W2: the last word lands after the end, none held: complete in B") \
+    X(W2_LAST_NEXT_A, "W2: it lands, the next held opens a frame: complete in A") \
+    X(W2_LAST_NEXT_B, "W2: it lands, the next held opens a frame: complete in B") \
+    X(W2_LAST_ONLY, "W2: complete at the landing of its only word") \
+    X(W2_LAST_SEVERAL, "W2: complete at the landing of its last of several words") \
+    X(W2_LAST_PADDED, "W2: complete at the landing of a padded word") \
+    X(W2_LAST_REARMED, "W2: the last word lands after a re-arming inside the frame: not complete") \
+    X(W2_NOT_LAST, "W2: a word lands, others of its frame are held: not complete") \
+    X(W2_NOT_ENDED, "W2: the only held word lands, the frame is open: not complete") \
+    X(W2_ERR_LANDING, "W2: ERR after words of the frame landed: not complete") \
+    X(W2_ERR_ENDED, "W2: ERR discards words of a frame that has ended: not complete") \
+    X(W2_ERR_COMPLETE, "W2: ERR leaves complete frames") \
+    X(W2_ERR_TURN, "W2: ERR leaves the turn at A") \
+    X(W2_DISABLE_LANDING, "W2: disabling after words of the frame landed: not complete") \
+    X(W2_DISABLE_ENDED, "W2: disabling discards words of a frame that has ended") \
+    X(W2_DISABLE_COMPLETE, "W2: disabling leaves complete frames") \
+    X(W2_DISABLE_TURN_A, "W2: disabling leaves the turn at A") \
+    X(W2_DISABLE_TURN_B, "W2: disabling leaves the turn at B") \
+    X(W2_ENABLE_COMPLETE, "W2: enabling leaves complete frames") \
+    X(W2_ENABLE_TURN, "W2: enabling leaves the turn at A") \
+    X(W2_ENABLE_BEGUN, "W2: enabling leaves a frame begun that was handed in so") \
+    X(W2_FRAME_BEGUN, "W2: a frame starts where one is begun: its next word opens none") \
+    X(W2_REARM_PLACES, "W2: re-arming: both places above 0") \
+    X(W2_REARM_COMPLETE, "W2: re-arming: both frames complete no more") \
+    X(W2_REARM_LANDING, "W2: re-arming after words of the open frame landed") \
+    X(W2_REARM_HELD, "W2: re-arming, opening words held: they stay so") \
+    X(W2_REARM_TURN, "W2: re-arming leaves the turn at A and the frame begun") \
+    X(W2_REARMED_COMPLETE, "W2: a frame whose first word was held at a re-arming is complete") \
+    X(W2_HANDED_A, "W2: the frame in A is handed back") \
+    X(W2_HANDED_B, "W2: the frame in B is handed back") \
+    X(W2_HANDED_LATEST_A, "W2: both are complete, that in A is the latest") \
+    X(W2_HANDED_LATEST_B, "W2: both are complete, that in B is the latest") \
+    X(W2_HANDED_OLDER_A, "W2: that in B ceased to be complete, the older in A is the latest") \
+    X(W2_HANDED_OLDER_B, "W2: that in A ceased to be complete, the older in B is the latest") \
+    X(W2_HANDED_HELD, "W2: handed back, the next frame's first word for that buffer is held") \
+    X(W2_HANDED_NONE, "W2: no frame, no word has landed") \
+    X(W2_HANDED_LANDING, "W2: no frame, words have landed in both") \
+    X(W2_HANDED_SHORT_A, "W2: too short, A") \
+    X(W2_HANDED_SHORT_B, "W2: too short, B") \
+    X(W2_HANDED_NO_OLDER, "W2: too short, the older frame's memory is not") \
+    X(W2_HANDED_EXACT, "W2: handed back, the memory ends with the frame") \
+    X(W2_HANDED_ONE_LESS, "W2: too short by one byte") \
+    X(W2_HANDED_START, "W2: too short, without the start byte it would do") \
+    X(W2_HANDED_OFFSET, "W2: handed back from a start byte above 0 on") \
+    X(W2_HANDED_OTHER_SHORT, "W2: handed back, the other memory is too short for any word") \
+    X(W2_HANDED_OPEN, "W2: handed back while a frame is open") \
+    X(W2_HANDED_ENABLED, "W2: handed back while enabled, no frame open") \
+    X(W2_HANDED_DISABLED, "W2: handed back while disabled") \
+    X(W2_HANDED_FAR, "W2: handed back, a frame of more than 4 GiB") \
+    X(W2_HANDED_FAR_SHORT, "W2: too short for a frame of more than 4 GiB, not for its low 32 bits") \
+    X(W2_HANDED_EMPTY, "W2: a complete frame at place 0 is handed in: no bytes") \
+    X(W2_RUN_COMPLETE, "W2: a frame becomes complete inside a run") \
+    X(W2_RUN_FRAMES, "W2: so do three frames in one run") \
+    X(W2_RUN_LOST, "W2: overrun inside a run over two memories") \
     X(R5_TAKEN, "rule 5: start of a taken frame, CM 0") \
     X(R5_UNTAKEN, "rule 5: start of an untaken frame") \
     X(R5_SNAPSHOT, "rule 5: start of a taken frame, CM 1") \
@@ -346,6 +490,20 @@ const char *const call_name[CALLS] = {
     X(NO_WAITING, "W6: image: more than 3 bytes wait, and nothing else") \
     X(NO_LINES, "image: lines in a closed frame, and nothing else") \
     X(NO_PIXELS, "image: pixels in a closed frame, and nothing else") \
+    X(NO_MODE, "W2: image: mode above 1, and nothing else") \
+    X(NO_ONE_PLACE_B, "W2: image: mode one, PLACE_B not 0, and nothing else") \
+    X(NO_ONE_IN_B, "W2: image: mode one, IN_B not 0, and nothing else") \
+    X(NO_ONE_OPENING, "W2: image: mode one, OPENING not 0, and nothing else") \
+    X(NO_ONE_TURN, "W2: image: mode one, TURN not 0, and nothing else") \
+    X(NO_ONE_BEGUN, "W2: image: mode one, BEGUN not 0, and nothing else") \
+    X(NO_ONE_FRAME_A, "W2: image: mode one, FRAME_A not 0, and nothing else") \
+    X(NO_ONE_FRAME_B, "W2: image: mode one, FRAME_B not 0, and nothing else") \
+    X(NO_ONE_LATEST, "W2: image: mode one, LATEST not 0, and nothing else") \
+    X(NO_TURN, "W2: image: mode two, TURN above 1, and nothing else") \
+    X(NO_BEGUN, "W2: image: mode two, BEGUN above 1, and nothing else") \
+    X(NO_FRAME_A, "W2: image: mode two, FRAME_A above 2, and nothing else") \
+    X(NO_FRAME_B, "W2: image: mode two, FRAME_B above 2, and nothing else") \
+    X(NO_LATEST, "W2: image: mode two, LATEST above 1, and nothing else") \
     X(M_DEPTH_0, "malformed: depth 0, and nothing else") \
     X(M_DEPTH_33, "malformed: depth 33, and nothing else") \
     X(M_DEPTH_ABOVE, "malformed: depth above 33, and nothing else") \
@@ -370,6 +528,10 @@ const char *const call_name[CALLS] = {
     X(M_PIXELS, "malformed: pixels above samples, and nothing else") \
     X(M_COMPLETED, "malformed: completed above samples, and nothing else") \
     X(M_PLACE, "malformed: place above landed, and nothing else") \
+    X(M_PLACE_TWO, "W2: malformed: mode two, place of A above landed, and nothing else") \
+    X(M_PLACE_B, "W2: malformed: mode two, place of B above landed, and nothing else") \
+    X(M_IN_B, "W2: malformed: mode two, an unused slot goes to B, and nothing else") \
+    X(M_OPENING, "W2: malformed: mode two, an unused slot opens, and nothing else") \
     X(M_EQUATION, "malformed: equation of counts, and nothing else") \
     X(M_DEPTH_HELD, "malformed: depth above 32 and as many held, and nothing else") \
     X(M_JPEG_CROP, "W4: malformed: JPEG 1 with CROP 1, and nothing else") \
@@ -380,6 +542,12 @@ const char *const call_name[CALLS] = {
     X(M_ESS_EDM_1, "W6: malformed: ESS 1 with EDM 1, and nothing else") \
     X(M_ESS_EDM_2, "W6: malformed: ESS 1 with EDM 2, and nothing else") \
     X(M_ESS_EDM_3, "W6: malformed: ESS 1 with EDM 3, and nothing else") \
+    X(W2_OFF_BEGUN, "W2: a disabled device with a frame begun is well-formed") \
+    X(W2_CLOSED_BEGUN, "W2: an enabled one with a frame begun and none open is well-formed") \
+    X(W2_ANY_MARKS, "W2: one whose oldest word goes to B and opens none is well-formed") \
+    X(W2_TURN_OTHER, "W2: one whose last held word is not for the turn is well-formed") \
+    X(W2_COMPLETE_0, "W2: one with a complete frame at place 0 is well-formed") \
+    X(W2_PLACES, "W2: one with both places as high as landed is well-formed") \
     X(FILE_WRITE, "file: version 1, a write refused after an accepted one") \
     X(FILE_WRITE_2, "W7: file: version 2, a write refused after an accepted one") \
     X(AT_WRITE, "item: version 1, a write") \
@@ -426,16 +594,30 @@ typedef enum { BRANCHES(BRANCH_NAME) BRANCH_COUNT } branch;
     X(T_CODE_OVERRUN_SNAPSHOT, "W6: released bytes overrun, CM 1") \
     X(T_ERR, "W6: ERR discards the held words, for each number held") \
     X(T_DISABLE, "CR: ENABLE falls with the FIFO full, all discarded") \
+    X(T_TWO_LANDED, "W2: a word lands, for each number held") \
+    X(T_TWO_OPENING, "W2: a frame's first word held, as the first to the 32nd") \
+    X(T_TWO_IN_B, "W2: a word for B held, as the first to the 32nd") \
+    X(T_TWO_FRAMES, "W2: of so many frames the first word is held") \
+    X(T_TWO_OVERRUN, "W2: overrun, what the held words carried is gone") \
+    X(T_TWO_ERR, "W2: ERR, so too, for each number held") \
+    X(T_TWO_DISABLE, "W2: ENABLE falls with the FIFO full, so too") \
     X(T_RESET, "dcmi_reset_depth accepted, over a device in use") \
     X(T_WRITE, "dcmi_write accepted") \
     X(T_READ, "dcmi_read accepted") \
     X(T_INTERRUPT, "dcmi_interrupt accepted") \
     X(T_REARM, "dcmi_rearm accepted") \
+    X(T_ONE_BUFFER, "dcmi_one_buffer accepted") \
+    X(T_TWO_BUFFERS, "dcmi_two_buffers accepted") \
+    X(T_LATEST_FRAME, "dcmi_latest_frame accepted") \
     X(T_SAMPLE, "dcmi_sample accepted") \
+    X(T_SAMPLE_TWO, "dcmi_sample_two accepted") \
     X(T_RUN, "dcmi_run accepted") \
+    X(T_RUN_TWO, "dcmi_run_two accepted") \
     X(T_FILE, "dcmi_run_file_depth accepted") \
     X(T_MORE_HELD, "malformed: one more held than the depth, and nothing else") \
-    X(T_SLOT, "malformed: one unused slot not 0, for each slot, and nothing else")
+    X(T_SLOT, "malformed: one unused slot not 0, for each slot, and nothing else") \
+    X(T_SLOT_IN_B, "W2: malformed: one unused slot goes to B, for each, and nothing else") \
+    X(T_SLOT_OPENING, "W2: malformed: one unused slot opens, for each, and nothing else")
 
 #define TABLE_NAME(name, text) name,
 typedef enum { TABLES(TABLE_NAME) TABLE_COUNT } table;
@@ -952,6 +1134,265 @@ static void reached_sample(const camera *before, uint32_t sample, const camera *
     else if (works) reached_edge(before, sample, after);
 }
 
+/* ---- two frame buffers in turn, W2 ---- */
+
+/* A working edge with ENABLE 1. */
+static bool works(const camera *before, uint32_t sample)
+{
+    const bool was_high = before->pins & CLOCK, high = sample >> 16 & 1;
+    return high != was_high && high == (bool)(before->cr & PCKPOL) && (before->cr & ENABLE);
+}
+
+/* ERR closes the frame, and leaves no sync remembered as blanking; so does an overrun, at which a word is completed. */
+static event event_of(const camera *before, uint32_t sample, const camera *after)
+{
+    const bool open = before->frame != FRAME_CLOSED, closed = after->frame == FRAME_CLOSED, ess = before->cr & ESS;
+    event e = { .landed = after->landed != before->landed, .word = after->completed != before->completed };
+    e.lost = e.word && after->discarded != before->discarded;
+    e.error = ess && works(before, sample) && closed && !e.word && !after->blanked && (open || (before->blanked & VSYNC));
+    e.padded = e.word && (before->cr & JPEG) && (after->blanked & VSYNC);
+    e.ended = open && closed && !e.lost && !e.error;
+    return e;
+}
+
+/* Room for a word at a place. */
+static bool room(const lent *m, uint32_t place) { return 4 * (uint64_t)place + 4 <= m->length - m->start; }
+
+static unsigned ones(uint32_t bits)
+{
+    unsigned count = 0;
+    for (; bits; bits &= bits - 1) count++;
+    return count;
+}
+
+/* Rule 1, granted: no room for the oldest held word. */
+static void reached_no_room(const camera *before, const lent *both)
+{
+    const buffer to = before->in_b & 1, away = 1 - to, behind = before->in_b >> 1 & 1;
+    const bool opens = before->opening & 1, behind_opens = before->opening >> 1 & 1;
+    seen(room(&both[away], before->place[away]), to == BUFFER_A ? W2_NO_ROOM_A : W2_NO_ROOM_B);
+    seen(opens, W2_NO_ROOM_OPENING);
+    seen(!opens && room(&both[to], 0), W2_NO_ROOM_LATER);
+    seen(before->held > 1 && behind == away && room(&both[away], behind_opens ? 0 : before->place[away]), W2_NO_ROOM_BEHIND);
+}
+
+/* Rule 1: the oldest held word has landed, with others held or not. `over` is whether none of its frame is left to come. */
+static void reached_landing(const camera *before, const lent *both, const camera *after, const event *e)
+{
+    const buffer to = before->in_b & 1, away = 1 - to;
+    const bool opens = before->opening & 1, several = before->held > 1, next_opens = before->opening >> 1 & 1;
+    const uint32_t place = before->place[to], at = opens ? 0 : place;
+    const content was = before->in[to], is = after->in[to];
+    const bool over = several ? next_opens : !before->begun, becomes = over && is == CONTENT_COMPLETE && (opens || was == CONTENT_LANDING);
+    if (after->place[to] != at + 1) return;
+    seen_at(true, T_TWO_LANDED, before->held);
+    seen(opens && place, to == BUFFER_A ? W2_OPENS_A : W2_OPENS_B);
+    seen(opens && !place, W2_OPENS_0);
+    seen(opens && !room(&both[to], place), W2_OPENS_BEYOND);
+    seen(!opens && place, to == BUFFER_A ? W2_LANDS_A : W2_LANDS_B);
+    seen(!opens && !place && was == CONTENT_NONE && before->begun, W2_LANDS_REARMED);
+    seen(4 * (uint64_t)at + 4 == both[to].length - both[to].start, W2_LANDS_END);
+    seen(to == BUFFER_B && both[to].start && both[to].start != both[away].start, W2_LANDS_START);
+    seen(before->place[away] && after->place[away] == before->place[away], W2_LANDS_OTHER);
+    seen(to == BUFFER_B && 4 * (uint64_t)at > UINT32_MAX, W2_LANDS_FAR);
+
+    seen(opens && was == CONTENT_COMPLETE && is == CONTENT_LANDING, to == BUFFER_A ? W2_CEASES_A : W2_CEASES_B);
+    seen(opens && was == CONTENT_COMPLETE && becomes, W2_CEASES_AT_ONCE);
+    seen(becomes && !several, to == BUFFER_A ? W2_LAST_A : W2_LAST_B);
+    seen(becomes && several, to == BUFFER_A ? W2_LAST_NEXT_A : W2_LAST_NEXT_B);
+    seen(becomes && opens, W2_LAST_ONLY);
+    seen(becomes && !opens, W2_LAST_SEVERAL);
+    seen(over && !opens && was == CONTENT_NONE && is == CONTENT_NONE, W2_LAST_REARMED);
+    seen(several && !next_opens && is == CONTENT_LANDING, W2_NOT_LAST);
+    seen(!several && before->begun && !e->ended && is == CONTENT_LANDING, W2_NOT_ENDED);
+}
+
+/* Rule 9: a word is completed, held or lost. */
+static void reached_turn(const camera *before, const camera *after, const event *e)
+{
+    const bool first = !before->begun, switched = after->turn != before->turn, in_b = after->turn == BUFFER_B;
+    const buffer of = after->turn;
+    if (first != switched) return;
+    if (e->lost) {
+        const bool gone = !after->in_b && !after->opening && !after->begun, ended = before->held && first, kept = after->in[of] == CONTENT_LANDING;
+        const bool both = before->in[BUFFER_A] == CONTENT_COMPLETE && before->in[BUFFER_B] == CONTENT_COMPLETE;
+        seen(first, in_b ? W2_LOST_TO_B : W2_LOST_TO_A);
+        seen(!first, W2_LOST_LATER);
+        seen(!first && before->in[of] == CONTENT_LANDING && kept, W2_LOST_LANDING);
+        seen(ended && before->in[1 - of] == CONTENT_LANDING && after->in[1 - of] == CONTENT_LANDING, W2_LOST_ENDED);
+        seen(both && after->in[BUFFER_A] == CONTENT_COMPLETE && after->in[BUFFER_B] == CONTENT_COMPLETE, W2_LOST_COMPLETE);
+        seen(e->padded && !first && before->in[of] == CONTENT_LANDING && kept, W2_LOST_PADDED);
+        seen(e->padded && first, W2_LOST_PADDED_FIRST);
+        seen_at(gone && (before->in_b | before->opening), T_TWO_OVERRUN, before->depth);
+        return;
+    }
+    const uint32_t slot = after->held - 1;
+    const bool opens = after->opening >> slot & 1, goes_to_b = after->in_b >> slot & 1;
+    if (opens != first || goes_to_b != in_b) return;
+    seen(first, in_b ? W2_TO_B : W2_TO_A);
+    seen(!first, in_b ? W2_LATER_B : W2_LATER_A);
+    seen(first && e->padded, W2_TO_PADDED);
+    seen(first && (before->cr & ESS) && before->waiting, W2_TO_RELEASED);
+    seen(first && !e->landed && before->in[of] == CONTENT_COMPLETE && after->in[of] == CONTENT_COMPLETE, W2_OLD_STAYS);
+    seen_at(first, T_TWO_OPENING, after->held);
+    seen_at(in_b, T_TWO_IN_B, after->held);
+    seen_at(first, T_TWO_FRAMES, ones(after->opening));
+}
+
+/* Rule 4: the frame that was open has ended. */
+static void reached_end_of_two(const camera *before, const camera *after, const event *e)
+{
+    const buffer of = before->turn;
+    const bool taken = before->frame == FRAME_TAKEN, left = before->held > e->landed, cleared = before->cr & ~after->cr & CAPTURE;
+    const bool turn_stays = after->turn == before->turn, was_landing = before->in[of] == CONTENT_LANDING, complete = after->in[of] == CONTENT_COMPLETE;
+    const bool opened = e->landed && (before->opening & 1), now = before->begun && !left && !e->word && complete && (was_landing || opened);
+    if (after->begun) return;
+    seen(now && !e->landed, of == BUFFER_A ? W2_END_A : W2_END_B);
+    seen(now && e->landed, W2_END_LANDED);
+    seen(now && (before->cr & ESS), W2_END_CODE);
+    seen(now && (before->cr & CM) && cleared, W2_END_SNAPSHOT);
+    seen(now && !(before->cr & CAPTURE), W2_END_CAPTURE_0);
+    seen(now && (before->cr & CROP) && before->lines > (before->cwstrt >> 16) + (before->cwsize >> 16) + 1, W2_END_WINDOW);
+    seen(now && after->in[1 - of] == CONTENT_COMPLETE, W2_END_BOTH);
+    seen(before->begun && !left && !e->landed && !e->word && before->in[of] == CONTENT_COMPLETE && complete, W2_END_IMAGE);
+    seen(before->begun && left && !e->landed && !e->word && was_landing && !complete, W2_END_HELD);
+    seen(before->begun && left && (before->opening & (before->opening - 1)), W2_END_BEHIND);
+    seen(taken && !before->begun && !e->word && turn_stays, of == BUFFER_A ? W2_END_EMPTY_A : W2_END_EMPTY_B);
+    seen(!taken && !before->begun && turn_stays && !e->landed && after->in[BUFFER_A] == before->in[BUFFER_A], W2_END_UNTAKEN);
+    seen(before->begun && !left && !e->word && before->in[of] == CONTENT_NONE && after->in[of] == CONTENT_NONE, W2_END_REARMED);
+    seen(e->padded && before->begun && !before->held && was_landing && !complete, W2_END_PADDED);
+    seen(e->padded && before->begun && before->held == 1 && e->landed && !complete, W2_END_PADDED_LANDED);
+}
+
+/* ERR, at which the open frame, if there is one, is closed. */
+static void reached_error_of_two(const camera *before, const camera *after)
+{
+    const buffer of = before->turn;
+    const bool gone = !after->in_b && !after->opening && !after->begun && after->turn == before->turn;
+    if (!gone) return;
+    seen(before->begun && before->in[of] == CONTENT_LANDING && after->in[of] == CONTENT_LANDING, W2_ERR_LANDING);
+    seen(!before->begun && before->held && before->in[of] == CONTENT_LANDING && after->in[of] == CONTENT_LANDING, W2_ERR_ENDED);
+    seen(before->in[of] == CONTENT_COMPLETE && after->in[of] == CONTENT_COMPLETE, W2_ERR_COMPLETE);
+    seen(of == BUFFER_A, W2_ERR_TURN);
+    seen_at(before->in_b | before->opening, T_TWO_ERR, before->held);
+}
+
+/* An accepted sample in mode two. */
+static void reached_two(const camera *before, uint32_t sample, const lent *both, const camera *after)
+{
+    const event e = event_of(before, sample, after);
+    const bool granted = sample >> 17 & 1, enabled = before->cr & ENABLE, raised = after->ris & ~before->ris & F_FRAME;
+    const bool starts = before->frame == FRAME_CLOSED && after->frame != FRAME_CLOSED;
+    if (granted && enabled && before->held && !e.landed) reached_no_room(before, both);
+    if (e.landed) reached_landing(before, both, after, &e);
+    if (e.word) reached_turn(before, after, &e);
+    if (e.ended) reached_end_of_two(before, after, &e);
+    if (e.error) reached_error_of_two(before, after);
+    const unsigned told = frames_sample(before, &e);
+    seen((told & FRAMES_FIRST) && after->turn == BUFFER_A, W2_FIRST);
+    seen((told & FRAMES_LATER) && after->turn == BUFFER_A, W2_FIRST_LATER);
+    seen(told & FRAMES_REARMED, W2_REARMED_COMPLETE);
+    seen(told & FRAMES_PADDED, W2_LAST_PADDED);
+    seen(starts && before->begun && after->begun, W2_FRAME_BEGUN);
+    seen(raised && after->frame != FRAME_CLOSED && before->begun && !before->held && before->in[before->turn] == CONTENT_LANDING
+         && after->in[before->turn] == CONTENT_LANDING, W2_EARLY);
+}
+
+/* ENABLE rises or falls in mode two. */
+static void reached_enable_of_two(const camera *before, const camera *after)
+{
+    const bool rises = after->cr & ~before->cr & ENABLE, falls = before->cr & ~after->cr & ENABLE;
+    const buffer of = before->turn;
+    const bool both = before->in[BUFFER_A] == CONTENT_COMPLETE && before->in[BUFFER_B] == CONTENT_COMPLETE;
+    const bool stays = after->in[BUFFER_A] == before->in[BUFFER_A] && after->in[BUFFER_B] == before->in[BUFFER_B] && after->turn == of;
+    const bool gone = !after->in_b && !after->opening && !after->begun;
+    if (before->mode != MODE_TWO || !stays) return;
+    seen(falls && gone && before->begun && before->in[of] == CONTENT_LANDING, W2_DISABLE_LANDING);
+    seen(falls && gone && !before->begun && before->held && before->in[of] == CONTENT_LANDING, W2_DISABLE_ENDED);
+    seen(falls && both, W2_DISABLE_COMPLETE);
+    seen(falls && gone && before->begun, of == BUFFER_A ? W2_DISABLE_TURN_A : W2_DISABLE_TURN_B);
+    seen_at(falls && gone && (before->in_b | before->opening) && before->held == before->depth, T_TWO_DISABLE, before->depth);
+    seen(rises && both, W2_ENABLE_COMPLETE);
+    seen(rises && of == BUFFER_A, W2_ENABLE_TURN);
+    seen(rises && before->begun && after->begun, W2_ENABLE_BEGUN);
+}
+
+static void reached_rearm(const camera *before, const camera *after)
+{
+    const bool none = after->in[BUFFER_A] == CONTENT_NONE && after->in[BUFFER_B] == CONTENT_NONE, begun = before->begun && after->begun;
+    if (after->place[BUFFER_A] || after->place[BUFFER_B] || !none) return;
+    seen(before->mode == MODE_ONE && before->place[BUFFER_A], REARM_BACK);
+    seen(before->place[BUFFER_A] && before->place[BUFFER_B], W2_REARM_PLACES);
+    seen(before->in[BUFFER_A] == CONTENT_COMPLETE && before->in[BUFFER_B] == CONTENT_COMPLETE, W2_REARM_COMPLETE);
+    seen(begun && before->in[before->turn] == CONTENT_LANDING, W2_REARM_LANDING);
+    seen(before->opening && after->opening == before->opening && after->in_b == before->in_b, W2_REARM_HELD);
+    seen(begun && before->mode == MODE_TWO && before->turn == BUFFER_A && after->turn == BUFFER_A, W2_REARM_TURN);
+}
+
+/* An accepted mode change. */
+static void reached_mode(const camera *before, const camera *after)
+{
+    const bool to_two = after->mode == MODE_TWO, was_two = before->mode == MODE_TWO;
+    const bool complete = before->in[BUFFER_A] == CONTENT_COMPLETE && before->in[BUFFER_B] == CONTENT_COMPLETE;
+    const bool places = before->place[BUFFER_A] && before->place[BUFFER_B];
+    if (after->place[BUFFER_A] || after->place[BUFFER_B] || after->in[BUFFER_A] || after->in[BUFFER_B] || after->begun || after->latest) return;
+    seen(to_two && !was_two && before->place[BUFFER_A] && after->turn == BUFFER_B, W2_SET_TWO);
+    seen(to_two && was_two && places && complete, W2_SET_TWO_AGAIN);
+    seen(to_two && was_two && before->turn == BUFFER_A && after->turn == BUFFER_B, W2_SET_TWO_TURN);
+    seen(to_two && was_two && before->begun, W2_SET_TWO_BEGUN);
+    seen(!to_two && was_two && places && after->turn == BUFFER_A, W2_SET_ONE);
+    seen(!to_two && !was_two && before->place[BUFFER_A], W2_SET_ONE_AGAIN);
+}
+
+/* What handing back answers. */
+static void reached_handed(const call *made, const camera *c)
+{
+    const bool a = made->output == DCMI_FRAME_IN_A, b = made->output == DCMI_FRAME_IN_B, some = a || b, is_short = made->output == DCMI_TOO_SHORT;
+    const bool complete_a = c->in[BUFFER_A] == CONTENT_COMPLETE, complete_b = c->in[BUFFER_B] == CONTENT_COMPLETE, both = complete_a && complete_b;
+    const buffer of = a || (is_short && (both ? c->latest == BUFFER_A : complete_a)) ? BUFFER_A : BUFFER_B, away = 1 - of;
+    const lent *m = &made->lent[of], *other = &made->lent[away];
+    const uint64_t bytes = 4 * (uint64_t)c->place[of], rest = m->length - m->start;
+    seen(a, W2_HANDED_A);
+    seen(b, W2_HANDED_B);
+    seen(a && both, W2_HANDED_LATEST_A);
+    seen(b && both, W2_HANDED_LATEST_B);
+    seen(a && c->latest == BUFFER_B && c->in[BUFFER_B] == CONTENT_LANDING, W2_HANDED_OLDER_A);
+    seen(b && c->latest == BUFFER_A && c->in[BUFFER_A] == CONTENT_LANDING, W2_HANDED_OLDER_B);
+    for (uint32_t i = 0; some && i < c->held; i++) seen((c->opening >> i & 1) && (c->in_b >> i & 1) == of, W2_HANDED_HELD);
+    seen(made->output == DCMI_NO_FRAME && !c->landed, W2_HANDED_NONE);
+    seen(made->output == DCMI_NO_FRAME && c->in[BUFFER_A] == CONTENT_LANDING && c->in[BUFFER_B] == CONTENT_LANDING, W2_HANDED_LANDING);
+    seen(is_short, of == BUFFER_A ? W2_HANDED_SHORT_A : W2_HANDED_SHORT_B);
+    seen(is_short && both && 4 * (uint64_t)c->place[away] <= other->length - other->start, W2_HANDED_NO_OLDER);
+    seen(some && bytes && bytes == rest && made->part_length == bytes, W2_HANDED_EXACT);
+    seen(is_short && bytes == rest + 1, W2_HANDED_ONE_LESS);
+    seen(is_short && bytes <= m->length, W2_HANDED_START);
+    seen(some && bytes && m->start && m->start != other->start && made->part_offset == m->start, W2_HANDED_OFFSET);
+    seen(some && bytes && other->length - other->start < 4, W2_HANDED_OTHER_SHORT);
+    seen(some && c->frame != FRAME_CLOSED, W2_HANDED_OPEN);
+    seen(some && (c->cr & ENABLE) && c->frame == FRAME_CLOSED, W2_HANDED_ENABLED);
+    seen(some && !(c->cr & ENABLE), W2_HANDED_DISABLED);
+    seen(some && made->part_length > UINT32_MAX, W2_HANDED_FAR);
+    seen(is_short && bytes > UINT32_MAX && (uint32_t)bytes <= rest, W2_HANDED_FAR_SHORT);
+    seen(some && !bytes && !made->part_length, W2_HANDED_EMPTY);
+}
+
+/* Where two memories are lent, or one in mode two: 16 and 9, and what is accepted for all that. */
+static void reached_lent(const call *made)
+{
+    const lent *a = &made->lent[BUFFER_A], *b = &made->lent[BUFFER_B];
+    const bool over_a = a->start > a->length, over_b = b->start > b->length, run = made->kind == RUN_TWO, latest = made->kind == LATEST_FRAME;
+    const bool accepted = made->answer == 0;
+    seen(made->answer == 16 && made->kind == RUN && !made->count, W2_EMPTY_ONE);
+    seen(made->answer == 16 && run && !made->count, W2_EMPTY_TWO);
+    if (made->kind == SAMPLE || made->kind == RUN) return;
+    seen(made->answer == 9 && over_a && !over_b, latest ? W2_START_A_LATEST : run ? W2_START_A_RUN : W2_START_A_SAMPLE);
+    seen(made->answer == 9 && over_b && !over_a, latest ? W2_START_B_LATEST : run ? W2_START_B_RUN : W2_START_B_SAMPLE);
+    seen(made->answer == 9 && run && !made->count, W2_START_EMPTY);
+    seen(accepted && a->start > b->length, W2_START_OTHER_A);
+    seen(accepted && b->start > a->length, W2_START_OTHER_B);
+    seen(accepted && a->start && b->start && a->start == a->length && b->start == b->length, W2_START_ENDS);
+}
+
 /* ---- register calls, the line, re-arming ---- */
 
 static void reached_cr(const camera *before, const camera *after)
@@ -1002,7 +1443,10 @@ static void reached_cr(const camera *before, const camera *after)
 static void reached_write(const camera *before, uint32_t offset, const camera *after)
 {
     switch (offset) {
-    case DCMI_CR: reached_cr(before, after); break;
+    case DCMI_CR:
+        reached_cr(before, after);
+        reached_enable_of_two(before, after);
+        break;
     case DCMI_ICR:
         seen(after->ris != before->ris, ICR_CLEARS);
         seen(after->ris == before->ris, ICR_CLEARS_NONE);
@@ -1141,6 +1585,20 @@ static void reached_refused_codes(const call *made)
 
 static inline uint64_t fault(bool holds, branch which) { return (uint64_t)holds << (which - FIRST_FAULT); }
 
+/* W2: what is no mode, or in a mode nothing of it. */
+static uint64_t mode_faults(const uint32_t *w)
+{
+    const bool one = w[DCMI_W_MODE] == 0, two = w[DCMI_W_MODE] == 1;
+    uint64_t faults = fault(!one && !two, NO_MODE);
+    for (unsigned i = 0; i <= DCMI_W_LATEST - DCMI_W_PLACE_B; i++) faults |= fault(one && w[DCMI_W_PLACE_B + i], NO_ONE_PLACE_B + i);
+    return faults
+         | fault(two && w[DCMI_W_TURN] > 1, NO_TURN)
+         | fault(two && w[DCMI_W_BEGUN] > 1, NO_BEGUN)
+         | fault(two && w[DCMI_W_FRAME_A] > 2, NO_FRAME_A)
+         | fault(two && w[DCMI_W_FRAME_B] > 2, NO_FRAME_B)
+         | fault(two && w[DCMI_W_LATEST] > 1, NO_LATEST);
+}
+
 /* What makes an image one of no device. */
 static uint64_t image_faults(const uint32_t *w)
 {
@@ -1150,7 +1608,8 @@ static uint64_t image_faults(const uint32_t *w)
          | fault(w[DCMI_W_FRAME] > 2, NO_FRAME)
          | fault(w[DCMI_W_WAITING] > 3, NO_WAITING)
          | fault(closed && w[DCMI_W_LINES], NO_LINES)
-         | fault(closed && w[DCMI_W_PIXELS], NO_PIXELS);
+         | fault(closed && w[DCMI_W_PIXELS], NO_PIXELS)
+         | mode_faults(w);
 }
 
 /* Whether unused slots from one on are not 0, before another. */
@@ -1161,12 +1620,15 @@ static bool slots_not_0(const uint32_t *w, uint32_t first, uint32_t end)
     return false;
 }
 
+/* Whether a bit is set at or above a number. */
+static bool from_on(uint32_t bits, uint32_t number) { return number < 32 && bits >> number; }
+
 /* What makes a device malformed. */
 static uint64_t device_faults(const uint32_t *w)
 {
     const uint32_t depth = w[DCMI_W_DEPTH], cr = w[DCMI_W_CR], held = w[DCMI_W_HELD], data = w[DCMI_W_PARTIAL_COUNT], most = w[DCMI_W_SAMPLES];
     const uint32_t full = edm(cr) ? 2 : 4, used = data * (8 + 2 * edm(cr));
-    const bool off = !(cr & ENABLE);
+    const bool off = !(cr & ENABLE), two = w[DCMI_W_MODE] == 1;
     return fault(depth == 0, M_DEPTH_0)
          | fault(depth == SLOTS + 1, M_DEPTH_33)
          | fault(depth > SLOTS + 1, M_DEPTH_ABOVE)
@@ -1190,7 +1652,11 @@ static uint64_t device_faults(const uint32_t *w)
          | fault(w[DCMI_W_LINES] > most, M_LINES)
          | fault(w[DCMI_W_PIXELS] > most, M_PIXELS)
          | fault(w[DCMI_W_COMPLETED] > most, M_COMPLETED)
-         | fault(w[DCMI_W_PLACE] > w[DCMI_W_LANDED], M_PLACE)
+         | fault(!two && w[DCMI_W_PLACE] > w[DCMI_W_LANDED], M_PLACE)
+         | fault(two && w[DCMI_W_PLACE] > w[DCMI_W_LANDED], M_PLACE_TWO)
+         | fault(w[DCMI_W_PLACE_B] > w[DCMI_W_LANDED], M_PLACE_B)
+         | fault(from_on(w[DCMI_W_IN_B], held), M_IN_B)
+         | fault(from_on(w[DCMI_W_OPENING], held), M_OPENING)
          | fault(w[DCMI_W_COMPLETED] != (uint64_t)w[DCMI_W_LANDED] + held + w[DCMI_W_DISCARDED], M_EQUATION);
 }
 
@@ -1206,12 +1672,33 @@ static void reached_slot(const uint32_t *w)
     seen_at(count == 1, T_SLOT, found);
 }
 
+/* W2: one bit of an unused slot. */
+static void reached_mark(uint32_t bits, uint32_t held, table which)
+{
+    for (uint32_t i = held; i < SLOTS; i++) seen_at(bits >> held << held == UINT32_C(1) << i, which, i + 1);
+}
+
+/* W2: what a well-formed device in mode two may be. */
+static void reached_board(const uint32_t *w)
+{
+    const bool off = !(w[DCMI_W_CR] & ENABLE), closed = !w[DCMI_W_FRAME];
+    const uint32_t held = w[DCMI_W_HELD], landed = w[DCMI_W_LANDED];
+    if (w[DCMI_W_MODE] == 0) return;
+    seen(off && w[DCMI_W_BEGUN], W2_OFF_BEGUN);
+    seen(!off && closed && w[DCMI_W_BEGUN], W2_CLOSED_BEGUN);
+    seen(held && (w[DCMI_W_IN_B] & 1) && !(w[DCMI_W_OPENING] & 1), W2_ANY_MARKS);
+    seen(held && (w[DCMI_W_IN_B] >> (held - 1) & 1) != w[DCMI_W_TURN], W2_TURN_OTHER);
+    seen((w[DCMI_W_FRAME_A] == 2 && !w[DCMI_W_PLACE]) || (w[DCMI_W_FRAME_B] == 2 && !w[DCMI_W_PLACE_B]), W2_COMPLETE_0);
+    seen(landed && w[DCMI_W_PLACE] == landed && w[DCMI_W_PLACE_B] == landed, W2_PLACES);
+}
+
 /* Whether an image is refused 1. A fault counts where it is the only one; a partial word with ENABLE 0 cannot be. */
 static bool reached_image(const uint32_t *image)
 {
     uint64_t faults = image_faults(image);
     if (!faults) faults = device_faults(image);
     seen(!faults && image[DCMI_W_WAITING] && !(image[DCMI_W_CR] & ENABLE), W6_OFF_WAITING);
+    if (!faults) reached_board(image);
     if (!faults) return false;
     for (unsigned i = 0; i < FAULTS; i++) seen(faults == UINT64_C(1) << i, FIRST_FAULT + i);
     seen(faults & fault(true, M_OFF_PARTIAL), M_OFF_PARTIAL);
@@ -1220,6 +1707,8 @@ static bool reached_image(const uint32_t *image)
     seen(too_deep && held == depth, M_DEPTH_HELD);
     seen_at(faults == fault(true, M_HELD) && held == depth + 1, T_MORE_HELD, depth);
     if (faults == fault(true, M_SLOT) || faults == fault(true, M_SLOT_BEYOND)) reached_slot(image);
+    if (faults == fault(true, M_IN_B)) reached_mark(image[DCMI_W_IN_B], held, T_SLOT_IN_B);
+    if (faults == fault(true, M_OPENING)) reached_mark(image[DCMI_W_OPENING], held, T_SLOT_OPENING);
     if (faults == fault(true, M_CR)) reached_jpeg(image[DCMI_W_CR], M_JPEG_CROP);
     if (faults == fault(true, M_CR)) reached_ess(image[DCMI_W_CR], M_ESS_EDM_1);
     return true;
@@ -1251,6 +1740,18 @@ static void walk_sample(camera *c, const call *made, uint32_t sample)
     seen(padded && !run && made->file[3] == 2, W4_PADDED_FILE_2);
 }
 
+/* The next sample over two memories. */
+static void walk_sample_two(camera *c, const call *made, uint32_t sample)
+{
+    const camera before = *c;
+    outcome unused;
+    model_sample_two(c, made->lent, sample, &unused);
+    reached_sample(&before, sample, c);
+    reached_two(&before, sample, made->lent, c);
+    seen(c->completed != before.completed && c->discarded != before.discarded, W2_RUN_LOST);
+    samples_made++;
+}
+
 static bool walked_well(const camera *c, const call *made)
 {
     uint32_t image[DCMI_WORDS];
@@ -1264,6 +1765,21 @@ static bool reached_run(const call *made)
     camera c;
     model_from_image(&c, made->before);
     for (size_t i = 0; i < made->count; i++) walk_sample(&c, made, made->samples[i]);
+    return walked_well(&c, made);
+}
+
+static bool reached_run_two(const call *made)
+{
+    camera c;
+    unsigned complete = 0;
+    model_from_image(&c, made->before);
+    for (size_t i = 0; i < made->count; i++) {
+        const bool was_a = c.in[BUFFER_A] == CONTENT_COMPLETE, was_b = c.in[BUFFER_B] == CONTENT_COMPLETE;
+        walk_sample_two(&c, made, made->samples[i]);
+        complete += (!was_a && c.in[BUFFER_A] == CONTENT_COMPLETE) + (!was_b && c.in[BUFFER_B] == CONTENT_COMPLETE);
+    }
+    seen(complete, W2_RUN_COMPLETE);
+    seen(complete >= 3, W2_RUN_FRAMES);
     return walked_well(&c, made);
 }
 
@@ -1402,8 +1918,13 @@ static const struct {
     [READ] = { 3, { 1, 2, 3 }, { 0, 0x4 } },
     [INTERRUPT] = { 1, { 1 }, { 0 } },
     [REARM] = { 1, { 1 }, { 0 } },
-    [SAMPLE] = { 4, { 1, 9, 7, 8 }, { 0 } },
-    [RUN] = { 4, { 1, 9, 7, 8 }, { 0 } },
+    [ONE_BUFFER] = { 2, { 1, 6 }, { 0 } },
+    [TWO_BUFFERS] = { 2, { 1, 6 }, { 0 } },
+    [LATEST_FRAME] = { 3, { 1, 16, 9 }, { 0 } },
+    [SAMPLE] = { 5, { 1, 16, 9, 7, 8 }, { 0 } },
+    [SAMPLE_TWO] = { 5, { 1, 16, 9, 7, 8 }, { 0 } },
+    [RUN] = { 5, { 1, 16, 9, 7, 8 }, { 0 } },
+    [RUN_TWO] = { 5, { 1, 16, 9, 7, 8 }, { 0 } },
     [RUN_FILE] = { 9, { 13, 10, 11, 13, 12, 13, 0, 9, 7 }, { 0x178, 0, 0x8, 0x170, 0, 0x140 } },
     [RUN_FILE_DEPTH] = { 10, { 18, 13, 10, 11, 13, 12, 13, 0, 9, 7 }, { 0, 0x2F0, 0, 0x10, 0x2E0, 0, 0x280 } },
     [TRACE_WRITE] = { 4, { 14, 12, 7, 15 }, { 0 } },
@@ -1443,14 +1964,29 @@ static bool has_bad(const uint32_t *samples, size_t count)
     return all >> 18;
 }
 
+static bool bad_starts(const call *made)
+{
+    return made->lent[BUFFER_A].start > made->lent[BUFFER_A].length || made->lent[BUFFER_B].start > made->lent[BUFFER_B].length;
+}
+
 static uint32_t run_reasons(const call *made, bool malformed)
 {
-    const uint32_t *samples = made->kind == SAMPLE ? &made->value : made->samples;
-    const size_t count = made->kind == SAMPLE ? 1 : made->count;
+    const bool single = made->kind == SAMPLE || made->kind == SAMPLE_TWO, two = made->kind == SAMPLE_TWO || made->kind == RUN_TWO;
+    const uint32_t *samples = single ? &made->value : made->samples;
+    const size_t count = single ? 1 : made->count;
     return reason(malformed, 0)
-         | reason(made->start > made->memory_length, 1)
-         | reason(has_bad(samples, count), 2)
-         | reason(made->before[DCMI_W_SAMPLES] + (uint64_t)count > UINT32_MAX, 3);
+         | reason(made->before[DCMI_W_MODE] != two, 1)
+         | reason(two ? bad_starts(made) : made->start > made->memory_length, 2)
+         | reason(has_bad(samples, count), 3)
+         | reason(made->before[DCMI_W_SAMPLES] + (uint64_t)count > UINT32_MAX, 4);
+}
+
+/* W2. */
+static uint32_t mode_reasons(const call *made, bool malformed) { return reason(malformed, 0) | reason(made->before[DCMI_W_CR] & ENABLE, 1); }
+
+static uint32_t latest_reasons(const call *made, bool malformed)
+{
+    return reason(malformed, 0) | reason(made->before[DCMI_W_MODE] != 1, 1) | reason(bad_starts(made), 2);
 }
 
 /* More samples than this are not walked through: of those the first and the last are looked at. */
@@ -1522,11 +2058,13 @@ static bool bad_depth(uint32_t depth) { return depth - 1 >= SLOTS; }
 
 static uint32_t reasons_of(const call *made)
 {
-    const bool on_device = WRITE <= made->kind && made->kind <= RUN, malformed = on_device && reached_image(made->before);
+    const bool on_device = WRITE <= made->kind && made->kind <= RUN_TWO, malformed = on_device && reached_image(made->before);
     switch (made->kind) {
     case WRITE: return write_reasons(made, malformed);
     case READ: return read_reasons(made, malformed);
-    case SAMPLE: case RUN: return run_reasons(made, malformed);
+    case ONE_BUFFER: case TWO_BUFFERS: return mode_reasons(made, malformed);
+    case LATEST_FRAME: return latest_reasons(made, malformed);
+    case SAMPLE: case SAMPLE_TWO: case RUN: case RUN_TWO: return run_reasons(made, malformed);
     case RESET_DEPTH: return reason(bad_depth(made->depth), 0);
     case RUN_FILE: return file_reasons(made);
     case RUN_FILE_DEPTH: return reason(bad_depth(made->depth), 0) | file_reasons(made) << 1;
@@ -1572,7 +2110,7 @@ static void reached_at_depth(const call *made)
 {
     const uint32_t depth = made->after[DCMI_W_DEPTH];
     if (made->kind == RESET_DEPTH) seen_at(made->before[DCMI_W_SAMPLES], T_RESET, depth);
-    if (WRITE <= made->kind && made->kind <= RUN) seen_at(true, T_WRITE + (made->kind - WRITE), depth);
+    if (WRITE <= made->kind && made->kind <= RUN_TWO) seen_at(true, T_WRITE + (made->kind - WRITE), depth);
 }
 
 static void reached_device(const call *made)
@@ -1587,13 +2125,38 @@ static void reached_device(const call *made)
         seen(made->output, LINE_UP);
         seen(!made->output && before.ris, LINE_MASKED);
         break;
-    case REARM: seen(before.place && !after.place, REARM_BACK); break;
+    case REARM: reached_rearm(&before, &after); break;
+    case ONE_BUFFER: case TWO_BUFFERS: reached_mode(&before, &after); break;
+    case LATEST_FRAME: reached_handed(made, &before); break;
     case SAMPLE:
         reached_sample(&before, made->value, &after);
         samples_made++;
         break;
+    case SAMPLE_TWO:
+        reached_sample(&before, made->value, &after);
+        reached_two(&before, made->value, made->lent, &after);
+        samples_made++;
+        break;
     default: break;
     }
+}
+
+/* W2: a mode change while enabled, and devices that are made. */
+static void reached_other_mode(const call *made)
+{
+    const bool two = made->before[DCMI_W_MODE] == 1, well = two && made->answer == 0 && made->after[DCMI_W_MODE] == 0;
+    const bool only = made->answer == 16 && reasons_of(made) == 2;
+    seen(made->kind == TWO_BUFFERS && made->answer == 6, two ? W2_SET_TWO_IN_TWO : W2_SET_TWO_IN_ONE);
+    seen(made->kind == ONE_BUFFER && made->answer == 6, two ? W2_SET_ONE_IN_TWO : W2_SET_ONE_IN_ONE);
+    seen(made->kind == RESET && well, W2_MADE_RESET);
+    seen(made->kind == RESET_DEPTH && well, W2_MADE_DEPTH);
+    seen((made->kind == RUN_FILE || made->kind == RUN_FILE_DEPTH) && well, W2_MADE_FILE);
+    if (two && made->answer == 0 && WRITE <= made->kind && made->kind <= REARM) seen(true, W2_WRITE + (made->kind - WRITE));
+    seen(only && made->kind == SAMPLE, W2_ONLY_SAMPLE);
+    seen(only && made->kind == RUN, W2_ONLY_RUN);
+    seen(only && made->kind == SAMPLE_TWO, W2_ONLY_SAMPLE_TWO);
+    seen(only && made->kind == RUN_TWO, W2_ONLY_RUN_TWO);
+    seen(only && made->kind == LATEST_FRAME, W2_ONLY_LATEST);
 }
 
 const char *reached_call(const call *made)
@@ -1607,8 +2170,14 @@ const char *reached_call(const call *made)
     if (made->kind == WRITE && made->offset == DCMI_CR && made->answer) reached_refused_cr(made);
     if (made->kind == WRITE && made->answer == 6) reached_refused_codes(made);
     if (made->kind == RUN_FILE_DEPTH && only_18(made)) reached_depth(made, W9_FILE_0);
+    if (made->kind >= LATEST_FRAME && made->kind <= RUN_TWO) reached_lent(made);
+    if (made->before[DCMI_W_MODE] == 1 || made->answer == 6 || made->answer == 16) reached_other_mode(made);
+    frames_begin(made->before);
     if (made->answer == 0 && made->kind < RUN) reached_device(made);
     if (made->answer == 0 && made->kind == RUN && !reached_run(made)) return "the model's run is not its samples one by one";
+    if (made->answer == 0 && made->kind == RUN_TWO && !reached_run_two(made)) return "the model's run over two memories is not its samples one by one";
+    const char *wrong = frames_call(made);
+    if (wrong) return wrong;
     if ((made->kind == RUN_FILE || made->kind == RUN_FILE_DEPTH) && !reached_file(made)) return "the model's file is not its writes and samples one by one";
     if (made->kind == TRACE_ITEM) reached_item(made);
     if (made->kind == TRACE_WRITE) reached_writer(made);
@@ -1618,6 +2187,7 @@ const char *reached_call(const call *made)
 /* ---- the summary ---- */
 
 #define ANSWER(number) (UINT32_C(1) << (number))
+#define RUN_ANSWERS (ANSWER(0) | ANSWER(1) | ANSWER(7) | ANSWER(8) | ANSWER(9) | ANSWER(16))
 #define FILE_ANSWERS \
     (ANSWER(0) | ANSWER(2) | ANSWER(3) | ANSWER(4) | ANSWER(5) | ANSWER(6) | ANSWER(7) | ANSWER(9) | ANSWER(10) | ANSWER(11) | ANSWER(12) | ANSWER(13))
 
@@ -1629,8 +2199,13 @@ static const uint32_t expected[CALLS] = {
     [READ] = ANSWER(0) | ANSWER(1) | ANSWER(2) | ANSWER(3),
     [INTERRUPT] = ANSWER(0) | ANSWER(1),
     [REARM] = ANSWER(0) | ANSWER(1),
-    [SAMPLE] = ANSWER(0) | ANSWER(1) | ANSWER(7) | ANSWER(8) | ANSWER(9),
-    [RUN] = ANSWER(0) | ANSWER(1) | ANSWER(7) | ANSWER(8) | ANSWER(9),
+    [ONE_BUFFER] = ANSWER(0) | ANSWER(1) | ANSWER(6),
+    [TWO_BUFFERS] = ANSWER(0) | ANSWER(1) | ANSWER(6),
+    [LATEST_FRAME] = ANSWER(0) | ANSWER(1) | ANSWER(9) | ANSWER(16),
+    [SAMPLE] = RUN_ANSWERS,
+    [SAMPLE_TWO] = RUN_ANSWERS,
+    [RUN] = RUN_ANSWERS,
+    [RUN_TWO] = RUN_ANSWERS,
     [RUN_FILE] = FILE_ANSWERS,
     [RUN_FILE_DEPTH] = FILE_ANSWERS | ANSWER(18),
     [TRACE_WRITE] = ANSWER(0) | ANSWER(7) | ANSWER(12) | ANSWER(14) | ANSWER(15),

@@ -8,12 +8,14 @@
 #include <stdint.h>
 
 #include "dcmi.h"
+#include "model.h"
 
 /* Places for refusal numbers in tables, 0 for none among them; a set of numbers is 32 bits. */
 enum { REFUSAL_NUMBERS = 32 };
 
 typedef enum {
-    RESET, RESET_DEPTH, WRITE, READ, INTERRUPT, REARM, SAMPLE, RUN, RUN_FILE, RUN_FILE_DEPTH, TRACE_WRITE, TRACE_ITEM, CALLS
+    RESET, RESET_DEPTH, WRITE, READ, INTERRUPT, REARM, ONE_BUFFER, TWO_BUFFERS, LATEST_FRAME, SAMPLE, SAMPLE_TWO, RUN, RUN_TWO, RUN_FILE, RUN_FILE_DEPTH,
+    TRACE_WRITE, TRACE_ITEM, CALLS
 } call_kind;
 
 extern const char *const call_name[CALLS];
@@ -31,10 +33,12 @@ typedef struct call {
     size_t count, length;          /* of the samples; of the file or the writer's buffer */
     uint8_t *memory;               /* the model's */
     size_t memory_length;
+    lent lent[BUFFERS];            /* the two memories of a call over two, and their starts */
     uint32_t before[DCMI_WORDS];   /* the device */
     uint32_t after[DCMI_WORDS];
     uint32_t answer;
-    uint64_t output;               /* the value read, the line, the kind of the item, the length written */
+    uint64_t output;               /* the value read, the line, the kind of the item or of the frame, the length written, where a word landed */
+    uint64_t part_offset, part_length; /* of the frame that is handed back */
 } call;
 
 /* Counts what a call reached; what is wrong with its answer, or a null pointer. */

@@ -1,3 +1,4 @@
 pub mod Modes
+pub mod TwoLandings
 pub mod TwoMemories
 pub mod HandedParts

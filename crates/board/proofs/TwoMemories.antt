@@ -2,12 +2,12 @@
 -- Assumes nothing.
 use mathlib.Core.Bool.{Bool, true, false, cond, _||_}
 use mathlib.Core.List.{List, [], _∷_}
-use mathlib.Core.Option.{Option, none, some}
+use mathlib.Core.Option.{Option}
 use mathlib.Core.Path.{_≡_, refl, sym, ap, subst, _∙_}
 use Prim.Native.Nat.{ℕ, _+_, _≤_, _<_, _^_}
 use native.Mathlib.Omega.{arith}
 use lib.Dec.{eqb, ltb}
-use lib.ListN.{length, length-drop}
+use lib.ListN.{length}
 use borrow.Author.Tests.{ltb-false}
 use Rattle.bits.proofs.Booleans.{or-false}
 use Rattle.refusals.specs.Refusals.{Test, _⇒_, first, refused, answered}
@@ -15,14 +15,10 @@ use Rattle.refusals.proofs.Accepted.{accepted as passed}
 use Rattle.samples.specs.Samples.{any-bad}
 use Rattle.output.specs.Output.{slot-count}
 use Rattle.output.specs.WellFormed.{Laid}
-use Rattle.buffers.specs.declared.Buffer.{Buffer}
-use Rattle.buffers.specs.declared.Buffer.the-variants.{A, B}
 use Rattle.buffers.specs.declared.Turns.{Turns}
-use Rattle.buffers.specs.Turns.{oldest-buffer, oldest-place, latest-complete}
+use Rattle.buffers.specs.Turns.{latest-complete}
 use Rattle.rules.specs.declared.Device.{Device}
 use Rattle.rules.specs.State.{output-of}
-use Rattle.rules.specs.RegisterCalls.{placed}
-use Rattle.rules.specs.Run.{Stepped, step}
 use Rattle.rules.specs.WellFormed as device-clauses
 use Rattle.rules.proofs.WellFormed.{WellFormed}
 use Rattle.board_rules.specs.declared.Mode.{Mode}
@@ -30,14 +26,14 @@ use Rattle.board_rules.specs.declared.Mode.the-variants.{One, Two}
 use Rattle.board_rules.specs.declared.Board.{Board}
 use Rattle.board_rules.specs.State.{bad-turns, malformed}
 use Rattle.board_rules.specs.TwoBuffers as buffer-rules
-use Rattle.board_rules.specs.TwoBuffers.{part, landing-in, two-step}
-use Rattle.board_rules.specs.BoardRuns.{Both, lent, frame-buffer, beyond, memories, buffers, filled, turns-of, board, two-refusal, TwoRun, run-two, TwoSample, in-memory, sample-two}
+use Rattle.board_rules.specs.TwoBuffers.{two-step}
+use Rattle.board_rules.specs.BoardRuns.{Both, frame-buffer, beyond, memories, buffers, filled, turns-of, board, two-refusal, TwoRun, run-two, TwoSample, sample-two}
 use Rattle.board_rules.specs.HandingBack.{Spans, beyond-span, handing-refusal, handed-latest, latest-frame}
 use Rattle.board_rules.proofs.WellFormed.{TurnsOk, turns-facts}
-use Rattle.sampling.proofs.AcceptedRuns.{landing-within}
 use Rattle.sampling.proofs.Ready.{ready}
 use Rattle.board.proofs.Modes.{refuses}
-use Rattle.board.specs.Answers.{pair, Accepted, LeftTwo, left-two, ran-two, start-in, Within, in-memories}
+use Rattle.board.proofs.TwoLandings.{same-landing}
+use Rattle.board.specs.Answers.{pair, Accepted, LeftTwo, left-two, ran-two, in-memories}
 
 -- What holds of a board in a mode holds of every board with that mode.
 in-mode : (P : Board → Type 0) (b : Board) (m : Mode) → b .mode ≡ m → P (record { device = b .device; mode = m }) → P b
@@ -117,47 +113,6 @@ pub run-accepted : (b : Board) (t : Turns) (l : Both) (ws : List ℕ) {after : B
     → _≡_ {A = TwoRun} (record { number = 0; board = after; memories = filled l (pair x y) }) (run-two b l ws)
 unfolding run-two turns-of ran-two
 run-accepted b t l ws e is ran = rw (is, e) (ap (λ (r : LeftTwo). record { number = 0; board = r .board; memories = filled l (r .buffers) }) ran)
-
--- A landing's byte in its memory.
-same-landing : (l : Both) (o : Option buffer-rules.Landing) → in-memories (l .a .start) (l .b .start) o ≡ in-memory l o
-unfolding in-memories in-memory
-same-landing l none = refl
-same-landing l (some x) = go (x .buffer)
-  where
-    go : (u : Buffer)
-        → _≡_ {A = Option buffer-rules.Landing}
-        (some (record { buffer = u; byte = start-in (l .a .start) (l .b .start) u + x .byte }))
-        (some (record { buffer = u; byte = lent u l .start + x .byte }))
-    go A = refl
-    go B = refl
-
--- It is below 2 ^ 64 as the memory's length is.
-lands-within : (x : buffer-rules.Two) (w : ℕ) (l : buffer-rules.Landing) → two-step x w .landing ≡ some l → l .byte < length (part (l .buffer) (x .buffers))
-unfolding two-step
-lands-within x w l e = go (r .landing) (λ n. landing-within (part u (x .buffers)) n found w) e
-  where
-    u : Buffer
-    u = oldest-buffer (x .turns)
-
-    found : Device
-    found = placed (oldest-place (x .device .core .output .place) (x .turns)) (x .device)
-
-    r : Stepped
-    r = step found (part u (x .buffers)) w
-
-    go : (o : Option ℕ) → ((n : ℕ) → o ≡ some n → n < length (part u (x .buffers))) → landing-in u o ≡ some l → l .byte < length (part (l .buffer) (x .buffers))
-    go none h e = let z : _≡_ {A = ℕ} 0 1 = cc in absurd (omega arith)
-    go (some n) h e =
-        let is : record { buffer = u; byte = n } ≡ l = cc in
-        subst (λ (y : buffer-rules.Landing). y .byte < length (part (y .buffer) (x .buffers))) is (h n refl)
-
-pub landing-fits : (d : Device) (t : Turns) (l : Both) (w : ℕ) → length (l .a .memory) < 2 ^ 64 → length (l .b .memory) < 2 ^ 64
-    → Within (l .a .start) (l .b .start) (two-step (record { device = d; turns = t; buffers = buffers l }) w .landing)
-landing-fits d t l w fits-a fits-b x e = go (x .buffer) (x .byte) (lands-within _ w x e)
-  where
-    go : (u : Buffer) (n : ℕ) → n < length (part u (buffers l)) → start-in (l .a .start) (l .b .start) u + n < 2 ^ 64
-    go A n h = omega (arith, rw length-drop at h)
-    go B n h = omega (arith, rw length-drop at h)
 
 -- A sample.
 pub sample-refused : (b : Board) (l : Both) (w n : ℕ) → two-refusal b l (w ∷ []) ≡ n → eqb n 0 ≡ false

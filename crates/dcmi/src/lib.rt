@@ -1,24 +1,35 @@
-// The C interface: what include/dcmi.h declares, on numbers and bytes. A device is an image of 58 words that the caller owns. Each function answers 0
+// The C interface: what include/dcmi.h declares, on numbers and bytes. A device, with its buffer mode, is an image of 67 words that the caller owns. Each function answers 0
 // or a refusal number for every input, has no `requires`, and states its whole result, the image, the memory and the outputs that it leaves, as one
 // equation with a definition of specs/; refused, all of them are as they were.
+ghost use mathlib.Core.Bool.{cond};
 ghost use mathlib.Core.List.{List};
 ghost use mathlib.Core.Path.{_≡_};
 ghost use Prim.Native.Nat.{ℕ};
 ghost use Rattle.rules.specs.declared.Core.{Core};
 ghost use Rattle.device.specs.Answers as device-answers;
+ghost use Rattle.board.specs.Answers as call-answers;
 ghost use Rattle.output.specs.Answers as output-answers;
 ghost use Rattle.full_word.specs.Answers as word-answers;
 ghost use Rattle.sampling.specs.Answers as sample-answers;
 ghost use Rattle.trace_reader.specs.Answers as trace-answers;
 ghost use Rattle.trace_writer.specs.Answers as writer-answers;
 ghost use Rattle.trace_writer.specs.Writing as writing;
+ghost use Rattle.two_buffers.specs.Answers as two-answers;
+ghost use Rattle.board_rules.specs.State as board-state;
+ghost use Rattle.board_rules.specs.BoardCalls.{in-one};
 ghost use Rattle.dcmi.specs.Calls as call-rules;
-use device::Changed;
+use board::Changed;
+use board::Handed;
+use board::TwoReply;
+use board::TwoSampled;
+use board_rules::Board;
+use board_rules::Mode;
+use board_words::board_of;
+use board_words::encodes;
+use board_words::image_of;
+use buffers::Buffer;
 use device::InterruptLine;
 use device::Reading;
-use device_words::device_of;
-use device_words::encodes;
-use device_words::image_of;
 use full_word::Packing;
 use output::Landing;
 use refusals::Outcome;
@@ -27,16 +38,17 @@ use sampling::SampledCore;
 use sampling::sample_core;
 use trace_reader::Item;
 use trace_reader::Read;
+use two_buffers::TwoLanding;
 
-// The image after a call that changes the device.
-fn store(image: &mut [u32; 58], after: Changed) -> u32
-    ensures { λ r. ⌜ call-rules.called r (now (image .exit)) ≡ call-rules.changed (now (image .entry)) (device-answers.changed after) ⌝ }
+// The image after a call that changes the board.
+fn store(image: &mut [u32; 67], after: Changed) -> u32
+    ensures { λ r. ⌜ call-rules.called r (now (image .exit)) ≡ call-rules.changed (now (image .entry)) (call-answers.changed after) ⌝ }
 {
     let outcome = after.outcome;
     match outcome {
         Outcome::Accepted => {
-            let d = after.device;
-            *image = image_of(d);
+            let b = after.board;
+            *image = image_of(b);
             return 0;
         }
         Outcome::Refused(refusal) => {
@@ -47,31 +59,31 @@ fn store(image: &mut [u32; 58], after: Changed) -> u32
 
 // A fresh device.
 #[no_mangle]
-pub extern "C" fn dcmi_reset(image: &mut [u32; 58]) -> u32
+pub extern "C" fn dcmi_reset(image: &mut [u32; 67]) -> u32
     ensures { λ r. ⌜ call-rules.called r (now (image .exit)) ≡ call-rules.reset ⌝ }
 {
-    let d = device::fresh();
-    *image = image_of(d);
+    let b = board::fresh();
+    *image = image_of(b);
     0
 }
 
 // A device made with a depth.
 #[no_mangle]
-pub extern "C" fn dcmi_reset_depth(image: &mut [u32; 58], depth: u32) -> u32
+pub extern "C" fn dcmi_reset_depth(image: &mut [u32; 67], depth: u32) -> u32
     ensures { λ r. ⌜ call-rules.called r (now (image .exit)) ≡ call-rules.reset-depth (now (image .entry)) depth ⌝ }
 {
-    let after = device::made(depth);
+    let after = board::made(depth);
     store(image, after)
 }
 
 // A register write.
 #[no_mangle]
-pub extern "C" fn dcmi_write(image: &mut [u32; 58], offset: u32, value: u32) -> u32
+pub extern "C" fn dcmi_write(image: &mut [u32; 67], offset: u32, value: u32) -> u32
     ensures { λ r. ⌜ call-rules.called r (now (image .exit)) ≡ call-rules.write (now (image .entry)) offset value ⌝ }
 {
     let words = *image;
     if encodes(words) {
-        let after = device::write(device_of(words), offset, value);
+        let after = board::write(board_of(words), offset, value);
         return store(image, after);
     }
     1
@@ -79,12 +91,38 @@ pub extern "C" fn dcmi_write(image: &mut [u32; 58], offset: u32, value: u32) -> 
 
 // The next word goes to place 0.
 #[no_mangle]
-pub extern "C" fn dcmi_rearm(image: &mut [u32; 58]) -> u32
+pub extern "C" fn dcmi_rearm(image: &mut [u32; 67]) -> u32
     ensures { λ r. ⌜ call-rules.called r (now (image .exit)) ≡ call-rules.rearm (now (image .entry)) ⌝ }
 {
     let words = *image;
     if encodes(words) {
-        let after = device::rearm(device_of(words));
+        let after = board::rearm(board_of(words));
+        return store(image, after);
+    }
+    1
+}
+
+// One frame buffer.
+#[no_mangle]
+pub extern "C" fn dcmi_one_buffer(image: &mut [u32; 67]) -> u32
+    ensures { λ r. ⌜ call-rules.called r (now (image .exit)) ≡ call-rules.one-buffer (now (image .entry)) ⌝ }
+{
+    let words = *image;
+    if encodes(words) {
+        let after = board::one_buffer(board_of(words));
+        return store(image, after);
+    }
+    1
+}
+
+// Two frame buffers in turn.
+#[no_mangle]
+pub extern "C" fn dcmi_two_buffers(image: &mut [u32; 67]) -> u32
+    ensures { λ r. ⌜ call-rules.called r (now (image .exit)) ≡ call-rules.two-buffers (now (image .entry)) ⌝ }
+{
+    let words = *image;
+    if encodes(words) {
+        let after = board::two_buffers(board_of(words));
         return store(image, after);
     }
     1
@@ -106,12 +144,12 @@ fn put_reading(reading: Reading, value: &mut u32) -> u32
 
 // A register read.
 #[no_mangle]
-pub extern "C" fn dcmi_read(image: &[u32; 58], offset: u32, value: &mut u32) -> u32
+pub extern "C" fn dcmi_read(image: &[u32; 67], offset: u32, value: &mut u32) -> u32
     ensures { λ r. ⌜ call-rules.gave r (now (value .exit)) ≡ call-rules.read (now (image .entry)) offset (now (value .entry)) ⌝ }
 {
     let words = *image;
     if encodes(words) {
-        let reading = device::read(device_of(words), offset);
+        let reading = board::read(board_of(words), offset);
         return put_reading(reading, value);
     }
     1
@@ -137,12 +175,12 @@ fn put_line(line: InterruptLine, level: &mut u32) -> u32
 
 // The interrupt line: 1 up, 0 down.
 #[no_mangle]
-pub extern "C" fn dcmi_interrupt(image: &[u32; 58], level: &mut u32) -> u32
+pub extern "C" fn dcmi_interrupt(image: &[u32; 67], level: &mut u32) -> u32
     ensures { λ r. ⌜ call-rules.gave r (now (level .exit)) ≡ call-rules.interrupt (now (image .entry)) (now (level .entry)) ⌝ }
 {
     let words = *image;
     if encodes(words) {
-        let line = device::interrupt(device_of(words));
+        let line = board::interrupt(board_of(words));
         return put_line(line, level);
     }
     1
@@ -151,7 +189,7 @@ pub extern "C" fn dcmi_interrupt(image: &[u32; 58], level: &mut u32) -> u32
 // A run of samples over the memory from the start byte on.
 #[no_mangle]
 pub extern "C" fn dcmi_run_slices(
-    image: &mut [u32; 58],
+    image: &mut [u32; 67],
     memory: &mut [u8],
     start: usize,
     samples: &[u32],
@@ -160,16 +198,57 @@ pub extern "C" fn dcmi_run_slices(
 {
     let words = *image;
     if encodes(words) {
-        let after = device::run(device_of(words), memory, start, samples);
+        let after = board::run(board_of(words), memory, start, samples);
         return store(image, after);
     }
     1
 }
 
+// A run of samples over two memories, each from its start byte on.
+#[no_mangle]
+pub extern "C" fn dcmi_run_two_slices(
+    image: &mut [u32; 67],
+    memory_a: &mut [u8],
+    start_a: usize,
+    memory_b: &mut [u8],
+    start_b: usize,
+    samples: &[u32],
+) -> u32
+    ensures { λ r. ⌜ call-rules.two-called r (now (image .exit)) (now («memory_a» .exit)) (now («memory_b» .exit)) ≡ call-rules.run-two (now (image .entry)) (call-answers.both (now («memory_a» .entry)) «start_a» (now («memory_b» .entry)) «start_b») (now (samples .entry)) ⌝ }
+{
+    let words = *image;
+    if encodes(words) {
+        let b = board_of(words);
+        let after = board::run_two(b, memory_a, start_a, memory_b, start_b, samples);
+        return store(image, after);
+    }
+    1
+}
+
+// The image after a file, in mode one.
+fn store_device(image: &mut [u32; 67], after: device::Changed) -> u32
+    ensures { λ r. ⌜ call-rules.called r (now (image .exit)) ≡ call-rules.file-changed (now (image .entry)) (device-answers.changed after) ⌝ }
+{
+    let outcome = after.outcome;
+    match outcome {
+        Outcome::Accepted => {
+            let device = after.device;
+            *image = image_of(Board {
+                device,
+                mode: Mode::One,
+            });
+            return 0;
+        }
+        Outcome::Refused(refusal) => {
+            return refusal.number();
+        }
+    }
+}
+
 // A trace file on a fresh device, over the memory from the start byte on.
 #[no_mangle]
 pub extern "C" fn dcmi_run_file_slices(
-    image: &mut [u32; 58],
+    image: &mut [u32; 67],
     file: &[u8],
     memory: &mut [u8],
     start: usize,
@@ -177,13 +256,13 @@ pub extern "C" fn dcmi_run_file_slices(
     ensures { λ r. ⌜ call-rules.run-called r (now (image .exit)) (now (memory .exit)) ≡ call-rules.run-file (now (image .entry)) (now (file .entry)) (now (memory .entry)) start ⌝ }
 {
     let after = files::run_file(file, memory, start);
-    store(image, after)
+    store_device(image, after)
 }
 
 // A trace file on a device made with a depth.
 #[no_mangle]
 pub extern "C" fn dcmi_run_file_depth_slices(
-    image: &mut [u32; 58],
+    image: &mut [u32; 67],
     depth: u32,
     file: &[u8],
     memory: &mut [u8],
@@ -192,7 +271,7 @@ pub extern "C" fn dcmi_run_file_depth_slices(
     ensures { λ r. ⌜ call-rules.run-called r (now (image .exit)) (now (memory .exit)) ≡ call-rules.run-file-depth (now (image .entry)) depth (now (file .entry)) (now (memory .entry)) start ⌝ }
 {
     let after = files::run_file_of(depth, file, memory, start);
-    store(image, after)
+    store_device(image, after)
 }
 
 fn landed_word(landing: Landing) -> u64
@@ -234,16 +313,19 @@ fn value_word(packing: Packing) -> u64
 }
 
 fn put_sampled(
-    image: &mut [u32; 58],
+    image: &mut [u32; 67],
     answer: &mut [u64; 4],
     after: SampledCore,
     slots: [u32; 32],
 ) -> u32
-    ensures { λ r. ⌜ ((core : Core) (memory : List ℕ) → let a = sample-answers.sampled-core core after slots memory in call-rules.sample-called r (now (image .exit)) (now (answer .exit)) ≡ call-rules.sample-stored (now (image .entry)) (now (answer .entry)) (a .answer) (a .device)) ⌝ }
+    ensures { λ r. ⌜ ((core : Core) (memory : List ℕ) → let a = sample-answers.sampled-core core after slots memory in call-rules.sample-called r (now (image .exit)) (now (answer .exit)) ≡ call-rules.sample-stored (now (image .entry)) (now (answer .entry)) (a .answer) (in-one (a .device))) ⌝ }
 {
     match after {
         SampledCore::Answered(core, landing, packing) => {
-            *image = image_of(Device { core, slots });
+            *image = image_of(Board {
+                device: Device { core, slots },
+                mode: Mode::One,
+            });
             let landed = landed_word(landing);
             let byte = byte_word(landing);
             let packed = packed_word(packing);
@@ -260,7 +342,7 @@ fn put_sampled(
 // One sample over the memory from the start byte on, with its two answers.
 #[no_mangle]
 pub extern "C" fn dcmi_sample_slices(
-    image: &mut [u32; 58],
+    image: &mut [u32; 67],
     memory: &mut [u8],
     start: usize,
     sample: u32,
@@ -270,10 +352,151 @@ pub extern "C" fn dcmi_sample_slices(
 {
     let words = *image;
     if encodes(words) {
-        let d = device_of(words);
-        let mut slots = d.slots;
-        let after = sample_core(d.core, &mut slots, memory, start, sample);
-        return put_sampled(image, answer, after, slots);
+        let b = board_of(words);
+        let mode = b.mode;
+        match mode {
+            Mode::One => {
+                let d = b.device;
+                let mut slots = d.slots;
+                let after = sample_core(d.core, &mut slots, memory, start, sample);
+                return put_sampled(image, answer, after, slots);
+            }
+            Mode::Two(_) => {
+                return unmatched_number(b);
+            }
+        }
+    }
+    1
+}
+
+// Why a call over memories that do not match the mode is refused.
+fn unmatched_number(b: Board) -> u32
+    ensures { λ r. ⌜ r ≡ cond (board-state.malformed b) 1 16 ⌝ }
+{
+    let refusal = board::unmatched(b);
+    refusal.number()
+}
+
+fn in_word(u: Buffer) -> u64
+    ensures { λ r. ⌜ r ≡ call-rules.in-word u ⌝ }
+{
+    match u {
+        Buffer::A => 1,
+        Buffer::B => 2,
+    }
+}
+
+fn landed_in_word(landing: TwoLanding) -> u64
+    ensures { λ r. ⌜ r ≡ call-rules.landed-in-word (two-answers.landing landing) ⌝ }
+{
+    match landing {
+        TwoLanding::Nowhere => 0,
+        TwoLanding::In(u, _) => in_word(u),
+    }
+}
+
+fn byte_in_word(landing: TwoLanding) -> u64
+    ensures { λ r. ⌜ r ≡ call-rules.byte-in-word (two-answers.landing landing) ⌝ }
+{
+    match landing {
+        TwoLanding::Nowhere => 0,
+        TwoLanding::In(_, byte) => byte as u64,
+    }
+}
+
+fn put_two_sampled(image: &mut [u32; 67], answer: &mut [u64; 4], after: TwoSampled) -> u32
+    ensures { λ r. ⌜ call-rules.sample-called r (now (image .exit)) (now (answer .exit)) ≡ call-rules.two-stored (now (image .entry)) (now (answer .entry)) (call-answers.two-reply (after .reply)) (after .board) ⌝ }
+{
+    let reply = after.reply;
+    match reply {
+        TwoReply::Answered(landing, packing) => {
+            let b = after.board;
+            *image = image_of(b);
+            let landed = landed_in_word(landing);
+            let byte = byte_in_word(landing);
+            let packed = packed_word(packing);
+            let value = value_word(packing);
+            *answer = [landed, byte, packed, value];
+            return 0;
+        }
+        TwoReply::Refused(refusal) => {
+            return refusal.number();
+        }
+    }
+}
+
+// One sample over two memories, each from its start byte on, with its two answers.
+#[no_mangle]
+pub extern "C" fn dcmi_sample_two_slices(
+    image: &mut [u32; 67],
+    memory_a: &mut [u8],
+    start_a: usize,
+    memory_b: &mut [u8],
+    start_b: usize,
+    sample: u32,
+    answer: &mut [u64; 4],
+) -> u32
+    ensures { λ r. ⌜ call-rules.two-left (call-rules.sample-called r (now (image .exit)) (now (answer .exit))) (now («memory_a» .exit)) (now («memory_b» .exit)) ≡ call-rules.sample-two (now (image .entry)) (call-answers.both (now («memory_a» .entry)) «start_a» (now («memory_b» .entry)) «start_b») sample (now (answer .entry)) ⌝ }
+{
+    let words = *image;
+    if encodes(words) {
+        let b = board_of(words);
+        let after = board::sample_two(b, memory_a, start_a, memory_b, start_b, sample);
+        return put_two_sampled(image, answer, after);
+    }
+    1
+}
+
+fn start_of(u: Buffer, start_a: usize, start_b: usize) -> u64
+    ensures { λ r. ⌜ r ≡ call-rules.start-of u (call-answers.spans 0 «start_a» 0 «start_b») ⌝ }
+{
+    match u {
+        Buffer::A => start_a as u64,
+        Buffer::B => start_b as u64,
+    }
+}
+
+fn put_frame(handed: Handed, start_a: usize, start_b: usize, frame: &mut [u64; 3]) -> u32
+    ensures { λ r. ⌜ ((la lb : ℕ) → call-rules.frame-called r (now (frame .exit)) ≡ call-rules.frame-words (now (frame .entry)) (call-answers.spans la «start_a» lb «start_b») (call-answers.handed handed)) ⌝ }
+{
+    match handed {
+        Handed::Nothing => {
+            *frame = [0, 0, 0];
+            return 0;
+        }
+        Handed::TooShort => {
+            *frame = [3, 0, 0];
+            return 0;
+        }
+        Handed::FrameIn(u, bytes) => {
+            let kind = in_word(u);
+            let offset = start_of(u, start_a, start_b);
+            let length = bytes as u64;
+            *frame = [kind, offset, length];
+            return 0;
+        }
+        Handed::Refused(refusal) => {
+            return refusal.number();
+        }
+    }
+}
+
+// Where the latest complete frame is, by the lengths and starts of the two memories.
+#[no_mangle]
+pub extern "C" fn dcmi_latest_frame(
+    image: &[u32; 67],
+    length_a: usize,
+    start_a: usize,
+    length_b: usize,
+    start_b: usize,
+    frame: &mut [u64; 3],
+) -> u32
+    ensures { λ r. ⌜ call-rules.frame-called r (now (frame .exit)) ≡ call-rules.latest-frame (now (image .entry)) (call-answers.spans «length_a» «start_a» «length_b» «start_b») (now (frame .entry)) ⌝ }
+{
+    let words = *image;
+    if encodes(words) {
+        let handed = board::latest_frame(board_of(words), length_a, start_a, length_b, start_b);
+        return put_frame(handed, start_a, start_b, frame);
     }
     1
 }

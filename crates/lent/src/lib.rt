@@ -1,41 +1,58 @@
-// The calls that change a device, over a device that is lent: a register write, a run and one sample. Each says its answer, the device
-// and the memory afterwards as one equation with a definition of the crate `rules`; refused, they are as they were.
+// The calls that change a board (W2), over a board that is lent: a register write, a run and one sample over one memory, and one sample over two. Each says its answer, the
+// board and the memories afterwards as one equation with a definition of the crate `board_rules`; refused, they are as they were.
 ghost use mathlib.Core.Path.{_≡_};
-ghost use Rattle.rules.specs.RegisterCalls as register-rules;
-ghost use Rattle.rules.specs.Run as run-rules;
-ghost use Rattle.device.specs.Answers as device-answers;
+ghost use Rattle.board_rules.specs.BoardCalls as board-calls;
+ghost use Rattle.board_rules.specs.BoardRuns as board-runs;
+ghost use Rattle.board.specs.Answers as call-answers;
+use board::TwoReply;
+use board_rules::Board;
 use device::Reply;
 use refusals::Outcome;
-use rules::Device;
 
 // A register write.
-pub fn write<'d>(d: &'d mut Device, offset: u32, value: u32) -> Outcome
-    ensures { λ r. ⌜ device-answers.changed (record { device = now (d .exit); outcome = r }) ≡ register-rules.write (now (d .entry)) offset value ⌝ }
+pub fn write<'b>(b: &'b mut Board, offset: u32, value: u32) -> Outcome
+    ensures { λ r. ⌜ call-answers.changed (record { board = now (b .exit); outcome = r }) ≡ board-calls.write (now (b .entry)) offset value ⌝ }
 {
-    let after = device::write(*d, offset, value);
-    *d = after.device;
+    let after = board::write(*b, offset, value);
+    *b = after.board;
     after.outcome
 }
 
 // A run of samples.
-pub fn run<'d, 'm, 's>(
-    d: &'d mut Device,
+pub fn run<'b, 'm, 's>(
+    b: &'b mut Board,
     memory: &'m mut [u8],
     start: usize,
     samples: &'s [u32],
 ) -> Outcome
-    ensures { λ r. ⌜ device-answers.ran (record { device = now (d .exit); outcome = r }) (now (memory .exit)) ≡ run-rules.run (now (d .entry)) (now (memory .entry)) start (now (samples .entry)) ⌝ }
+    ensures { λ r. ⌜ call-answers.ran (record { board = now (b .exit); outcome = r }) (now (memory .exit)) ≡ board-runs.run (now (b .entry)) (now (memory .entry)) start (now (samples .entry)) ⌝ }
 {
-    let after = device::run(*d, memory, start, samples);
-    *d = after.device;
+    let after = board::run(*b, memory, start, samples);
+    *b = after.board;
     after.outcome
 }
 
 // One sample.
-pub fn sample<'d, 'm>(d: &'d mut Device, memory: &'m mut [u8], start: usize, w: u32) -> Reply
-    ensures { λ r. ⌜ device-answers.sampled (record { device = now (d .exit); reply = r }) (now (memory .exit)) ≡ run-rules.sample (now (d .entry)) (now (memory .entry)) start w ⌝ }
+pub fn sample<'b, 'm>(b: &'b mut Board, memory: &'m mut [u8], start: usize, w: u32) -> Reply
+    ensures { λ r. ⌜ call-answers.sampled (record { board = now (b .exit); reply = r }) (now (memory .exit)) ≡ board-runs.sample (now (b .entry)) (now (memory .entry)) start w ⌝ }
 {
-    let after = device::sample(*d, memory, start, w);
-    *d = after.device;
+    let after = board::sample(*b, memory, start, w);
+    *b = after.board;
+    after.reply
+}
+
+// One sample over two memories.
+pub fn sample_two<'b, 'm, 'n>(
+    b: &'b mut Board,
+    memory_a: &'m mut [u8],
+    start_a: usize,
+    memory_b: &'n mut [u8],
+    start_b: usize,
+    w: u32,
+) -> TwoReply
+    ensures { λ r. ⌜ call-answers.two-sampled (record { board = now (b .exit); reply = r }) (now («memory_a» .exit)) (now («memory_b» .exit)) ≡ board-runs.sample-two (now (b .entry)) (call-answers.both (now («memory_a» .entry)) «start_a» (now («memory_b» .entry)) «start_b») w ⌝ }
+{
+    let after = board::sample_two(*b, memory_a, start_a, memory_b, start_b, w);
+    *b = after.board;
     after.reply
 }

@@ -1,13 +1,12 @@
-// Trace T of the bench sheet, sample by sample: one device is held in `log`, and lent for each sample. After each call
-// its answer and what the device holds are printed, and compared with the stored output.
-ghost use mathlib.Core.List.{[], _∷_};
+// Trace T of the bench sheet, sample by sample: one board is held in `log`, in mode one, and lent for each sample. After each call
+// its answer and what its device holds are printed, and compared with the stored output.
 ghost use mathlib.Core.Path.{_≡_};
 ghost use Prim.Native.Nat.{_<_};
 ghost use lib.ListN.{getD};
 ghost use Rattle.rules.specs.RegisterCalls as register-rules;
 ghost use Rattle.rules.specs.State as state;
-ghost use Rattle.sampling.specs.Answers as sample-answers;
-ghost use Rattle.sample_log.specs.Samples.{trace-t, samples};
+ghost use Rattle.sample_log.specs.Samples.{trace-t, samples, left, sample-left, left-in-one};
+use board_rules::Board;
 use device::Reading;
 use device::Reply;
 use full_word::Packing;
@@ -16,7 +15,6 @@ use output::Landing;
 use output::SLOTS;
 use refusals::Outcome;
 use registers::Register;
-use rules::Device;
 use rules::Partial;
 
 fn text(t: &[u8]) {
@@ -34,9 +32,9 @@ fn count(name: &[u8], n: u32) {
 }
 
 // A name and what the register at an offset reads as.
-fn register(name: &[u8], d: Device, offset: u32, digits: usize) {
+fn register(name: &[u8], b: Board, offset: u32, digits: usize) {
     text(name);
-    let reading = device::read(d, offset);
+    let reading = board::read(b, offset);
     match reading {
         Reading::Value(value) => hex(value, digits),
         Reading::Refused(refusal) => count(b"refused ", refusal.number()),
@@ -64,20 +62,20 @@ fn partial(p: Partial) {
     word(0 < p.count, p.bits);
 }
 
-// What the device holds: the registers on a line; the held words, the partial one, the place and the counts on another.
-fn state(d: Device) {
-    register(b"  CR ", d, Register::CR, 4);
-    register(b", SR ", d, Register::SR, 1);
-    register(b", RIS ", d, Register::RIS, 2);
-    register(b", IER ", d, Register::IER, 2);
-    register(b", MIS ", d, Register::MIS, 2);
-    register(b", CWSTRT ", d, Register::CWSTRT, 8);
-    register(b", CWSIZE ", d, Register::CWSIZE, 8);
+// What the board's device holds: the registers on a line; the held words, the partial one, the place and the counts on another.
+fn state(b: Board) {
+    register(b"  CR ", b, Register::CR, 4);
+    register(b", SR ", b, Register::SR, 1);
+    register(b", RIS ", b, Register::RIS, 2);
+    register(b", IER ", b, Register::IER, 2);
+    register(b", MIS ", b, Register::MIS, 2);
+    register(b", CWSTRT ", b, Register::CWSTRT, 8);
+    register(b", CWSIZE ", b, Register::CWSIZE, 8);
     text(b"\n");
-    let output = d.core.output;
-    let slots = d.slots;
+    let output = b.device.core.output;
+    let slots = b.device.slots;
     held(output.held, slots);
-    partial(d.core.capture.partial);
+    partial(b.device.core.capture.partial);
     count(b", place ", output.place);
     count(b", samples ", output.counts.samples);
     count(b", completed ", output.counts.completed);
@@ -86,8 +84,8 @@ fn state(d: Device) {
     text(b"\n");
 }
 
-// The answer of the write of CR, and the device after it.
-fn written(cr: u32, outcome: Outcome, d: Device) {
+// The answer of the write of CR, and the board after it.
+fn written(cr: u32, outcome: Outcome, b: Board) {
     text(b"write 00 ");
     hex(cr, 4);
     match outcome {
@@ -95,7 +93,7 @@ fn written(cr: u32, outcome: Outcome, d: Device) {
         Outcome::Refused(refusal) => count(b": refused ", refusal.number()),
     }
     text(b"\n");
-    state(d);
+    state(b);
 }
 
 fn landing(l: Landing) {
@@ -119,8 +117,8 @@ fn packing(p: Packing) {
     }
 }
 
-// A sample's two answers, and the device after it.
-fn sampled(w: u32, reply: Reply, d: Device) {
+// A sample's two answers, and the board after it.
+fn sampled(w: u32, reply: Reply, b: Board) {
     text(b"sample ");
     hex(w, 6);
     match reply {
@@ -131,7 +129,7 @@ fn sampled(w: u32, reply: Reply, d: Device) {
         Reply::Refused(refusal) => count(b": refused ", refusal.number()),
     }
     text(b"\n");
-    state(d);
+    state(b);
 }
 
 // Sample i of trace T.
@@ -152,30 +150,30 @@ fn trace_t(i: usize) -> u32
     t[i]
 }
 
-// One sample: the device is lent for it, what it answered and what the device then holds are printed, and the device is handed back.
-fn turn(mut d: Device, memory: &mut [u8], w: u32) -> Device
-    ensures { λ r. ⌜ sample-answers.ran r (now (memory .exit)) ≡ samples d (now (memory .entry)) (w ∷ []) ⌝ }
+// One sample: the board is lent for it, what it answered and what its device then holds are printed, and the board is handed back.
+fn turn(mut b: Board, memory: &mut [u8], w: u32) -> Board
+    ensures { λ r. ⌜ left r (now (memory .exit)) ≡ sample-left b (now (memory .entry)) w ⌝ }
 {
-    let reply = lent::sample(&mut d, memory, 0, w);
-    sampled(w, reply, d);
-    d
+    let reply = lent::sample(&mut b, memory, 0, w);
+    sampled(w, reply, b);
+    b
 }
 
-// A write of CR and trace T. The one device is held here, and lent for each sample. The device and the memory after them are the rules' own.
-fn log(cr: u32, memory: &mut [u8]) -> Device
-    ensures { λ r. ⌜ sample-answers.ran r (now (memory .exit)) ≡ samples (register-rules.write state.fresh 0x00 cr .device) (now (memory .entry)) trace-t ⌝ }
+// A write of CR and trace T. The one board is held here, and lent for each sample. It stays in mode one; its device and the memory after them are the rules' own.
+fn log(cr: u32, memory: &mut [u8]) -> Board
+    ensures { λ r. ⌜ left r (now (memory .exit)) ≡ left-in-one (samples (register-rules.write state.fresh 0x00 cr .device) (now (memory .entry)) trace-t) ⌝ }
 {
-    let after = device::write(device::fresh(), Register::CR, cr);
+    let after = board::write(board::fresh(), Register::CR, cr);
     let outcome = after.outcome;
-    let mut d = after.device;
-    written(cr, outcome, d);
+    let mut b = after.board;
+    written(cr, outcome, b);
     let mut i = 0;
     while i < 8 {
         let w = trace_t(i);
-        d = turn(d, memory, w);
+        b = turn(b, memory, w);
         i += 1;
     }
-    d
+    b
 }
 
 fn main() {

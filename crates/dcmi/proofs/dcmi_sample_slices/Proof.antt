@@ -1,6 +1,7 @@
 -- `dcmi::dcmi_sample_slices` meets its contract. Assumes nothing.
 use borrow.Author.Needs.{needs}
 use mathlib.Core.Path.{_∙_}
+use Rattle.board.proofs.Modes.{sample-one, sample-two}
 use Rattle.dcmi.proofs.Stored.{sampled}
 use Rattle.dcmi.specs.Calls.{sample}
 use Rattle.dcmi.proofs.dcmi_sample_slices.Statement.{statement}
@@ -9,13 +10,27 @@ use Rattle.dcmi.proofs.dcmi_sample_slices.Tie as tie
 returns : tie.Need-returns
 unfolding sample
 returns c =
-    let a = c .before .before .before .before .before .before .before .before .before .before .before .before .before .before .args in
-    sampled (a .image .now) (a .answer .now) _ _ _ (c .before .before .before .before .before .sample-core .result) (c .put-sampled .ensures _ _) (c .before .before .before .before .before .sample-core .ensures) ∙
-    rw (c .before .before .before .before .before .before .before .before .before .device-of .ensures, ← c .before .before .before .before .before .before .before .before .before .before .before .encodes .ensures, c .before .before .before .before .before .before .before .before .before .before .if1 .taken)
+    let a = c .before .before .before .before .before .before .before .before .before .before .before .before .before .before .before .before .before .args in
+    let found = c .before .before .before .before .before .before .before .before .before .before .before .before .board-of in
+    sampled (a .image .now) (a .answer .now) _ _ _ (c .before .before .before .before .before .sample-core .result) (c .put-sampled .ensures _ _) (c .before .before .before .before .before .sample-core .ensures)
+    (sample-one (found .result) _ _ _ (c .before .before .before .before .before .before .before .before .before .before .enum-told .given .1)) ∙
+    rw (found .ensures, ← c .before .before .before .before .before .before .before .before .before .before .before .before .before .before .encodes .ensures, c .before .before .before .before .before .before .before .before .before .before .before .before .before .if1 .taken)
 
 returns-2 : tie.Need-returns-2
 unfolding sample
-returns-2 c = rw (← c .before .encodes .ensures, c .if1 .left)
+returns-2 c =
+    let found = c .before .before .before .board-of in
+    rw (
+      ← c .before .before .before .before .before .encodes .ensures,
+      c .before .before .before .before .if1 .taken,
+      ← found .ensures,
+      sample-two (found .result) _ _ _ _ (c .before .enum-told2 .given .1),
+      c .unmatched-number .ensures,
+    )
+
+returns-3 : tie.Need-returns-3
+unfolding sample
+returns-3 c = rw (← c .before .encodes .ensures, c .if1 .left)
 
 pub dcmi-sample-slices-spec : {M : Type 1} → statement M
 dcmi-sample-slices-spec =
@@ -23,8 +38,12 @@ dcmi-sample-slices-spec =
     (tie.spec
     (λ c κs. search needs)
     (λ c κs. search needs)
+    (λ c. search needs)
     (λ c κs. search needs)
     (λ c κs. search needs)
     (λ c. search needs)
     returns
-    returns-2)
+    (λ c. search needs)
+    (λ c κs. search needs)
+    returns-2
+    returns-3)

@@ -1,7 +1,7 @@
 -- `dcmi::dcmi_write` meets its contract. Assumes nothing.
 use borrow.Author.Needs.{needs}
 use mathlib.Core.Path.{ap, _∙_}
-use Rattle.rules.specs.Answers.{Changed}
+use Rattle.board_rules.specs.Answers.{Changed}
 use Rattle.dcmi.specs.Calls.{changed}
 use Rattle.dcmi.specs.Calls.{write}
 use Rattle.dcmi.proofs.dcmi_write.Statement.{statement}
@@ -9,7 +9,7 @@ use Rattle.dcmi.proofs.dcmi_write.Tie as tie
 
 returns : tie.Need-returns
 unfolding write
-returns c = c .store .ensures ∙ ap (λ (x : Changed). changed (c .before .before .before .before .before .before .before .args .image .now) x) (c .before .before .write .ensures) ∙ rw (c .before .before .before .device-of .ensures, ← c .before .before .before .before .before .encodes .ensures, c .before .before .before .before .if1 .taken)
+returns c = c .store .ensures ∙ ap (λ (x : Changed). changed (c .before .before .before .before .before .before .before .args .image .now) x) (c .before .before .write .ensures) ∙ rw (c .before .before .before .board-of .ensures, ← c .before .before .before .before .before .encodes .ensures, c .before .before .before .before .if1 .taken)
 
 returns-2 : tie.Need-returns-2
 unfolding write

@@ -1,21 +1,28 @@
 -- `log` meets its contract. Assumes nothing.
--- The loop keeps `Turn`: what is left of trace T leads to the same end. Each turn is one sample of the rules.
+-- The loop keeps `Turn`: what is left of trace T leads to the same end. Each turn is one sample of the rules, by a board in mode one.
 use Prim.Native.Nat.{_-_}
 use borrow.Author.Needs.{needs}
-use mathlib.Core.Path.{refl}
+use mathlib.Core.Path.{refl, ap}
 use native.Mathlib.Omega.{arith}
-use Rattle.sample_log.proofs.Turns.{Turn, next, last}
+use Rattle.board_rules.specs.declared.Board.{Board}
+use Rattle.sample_log.proofs.Turns.{written-one, Turn, next, last}
 use Rattle.sample_log.proofs.log.Statement.{statement}
 use Rattle.sample_log.proofs.log.Tie as tie
 
 abbrev Inv-loop : tie.InvT-loop
-Inv-loop cr memory₀ d₀ i₀ memory d i = Turn d₀ memory₀ d memory i
+Inv-loop cr memory₀ b₀ i₀ memory b i = Turn b₀ memory₀ b memory i
 
 abbrev μ-loop : tie.MeasureT-loop
-μ-loop cr memory₀ d₀ i₀ memory d i = 8 - i
+μ-loop cr memory₀ b₀ i₀ memory b i = 8 - i
 
 loop-holds : tie.Need-loop-holds Inv-loop μ-loop
-loop-holds c = record { within = omega arith; long = refl; same = refl }
+loop-holds c =
+    record {
+      within = omega arith;
+      long = refl;
+      one = ap (λ (b : Board). b .mode) (written-one _ _ _ _ (c .before .before .before .fresh .ensures) (c .before .before .write .ensures));
+      same = refl;
+    }
 
 trace-t-requires : tie.Need-trace-t-requires Inv-loop μ-loop
 trace-t-requires c κs = c .loop-test .taken
@@ -35,8 +42,8 @@ same-length c = c .before .loop .inv .long
 
 returns : tie.Need-returns Inv-loop μ-loop
 returns c =
-    rw (← c .before .before .before .before .before .fresh .ensures, ← c .before .before .before .before .write .ensures)
-    (last (c .before .loop .inv) (c .loop-test .left))
+    last (c .before .loop .inv) (c .loop-test .left)
+    (written-one _ _ _ _ (c .before .before .before .before .before .fresh .ensures) (c .before .before .before .before .write .ensures))
 
 pub log-spec : {M : Type 1} → statement M
 log-spec =

@@ -7,7 +7,8 @@ use Rattle.refusals.specs.Table.{outcome}
 use Rattle.board_rules.specs.TwoBuffers.{TwoStepped}
 use Rattle.sampling.proofs.AcceptedRuns.{tail-part, put-tail}
 use Rattle.board.specs.Answers.{both}
-use Rattle.board.proofs.TwoMemories.{refusal-by, Passed, passes, landing-fits, sample-refused, sample-in-one, sample-accepted}
+use Rattle.board.proofs.TwoLandings.{landing-fits}
+use Rattle.board.proofs.TwoMemories.{refusal-by, Passed, passes, sample-refused, sample-in-one, sample-accepted}
 use Rattle.board.proofs.two_memories.sample_two.Statement.{statement}
 use Rattle.board.proofs.two_memories.sample_two.Tie as tie
 
