@@ -1,6 +1,6 @@
 -- What rules 3 to 8 make of the capture state by codes (W6): a well-formed one stays so, with one more allowed in the bound on lines and pixels; CR stays but for CAPTURE, the
 -- pins and OVR stay, and ERR does unless it is said to rise (`Left`). Assumes nothing.
-use mathlib.Core.Bool.{Bool, true, false, not, _&&_, true≢false}
+use mathlib.Core.Bool.{Bool, true, false, not, true≢false}
 use mathlib.Core.List.{List, [], _∷_}
 use mathlib.Core.Option.{Option, none, some}
 use mathlib.Core.Path.{_≡_, refl, sym, _∙_}
@@ -8,7 +8,7 @@ use Prim.Native.Nat.{ℕ, suc, _+_, _/_, _≤_, _<_}
 use native.Mathlib.Nat.{sub-le}
 use native.Mathlib.Omega.{arith}
 use lib.Dec.{ltb}
-use borrow.Author.Tests.{ltb-false, not-true}
+use borrow.Author.Tests.{ltb-false}
 use lib.ListN.{length}
 use Rattle.bits.specs.Bits.{bit}
 use Rattle.bits.proofs.Booleans.{and-true, by-cond, either}
@@ -17,23 +17,23 @@ use Rattle.packing.specs.Packing.{per-word}
 use Rattle.codes.specs.declared.Waiting.{Waiting}
 use Rattle.codes.specs.declared.Waiting.the-variants.{Zero}
 use Rattle.codes.specs.declared.Meaning.{Meaning}
-use Rattle.codes.specs.declared.Meaning.the-variants.{FrameEnd, FrameStart, LineEnd, LineStart, Unmatched}
 use Rattle.codes.specs.Bytes.{waiting-count, is-code, waiting-after, released}
-use Rattle.codes.specs.Meaning.{meaning, by-line-starts}
+use Rattle.codes.specs.Meaning.{meaning}
 use Rattle.rules.specs.declared.Syncs.{Syncs}
 use Rattle.rules.specs.declared.Scan.{Scan}
 use Rattle.rules.specs.declared.Frame.{Frame}
 use Rattle.rules.specs.declared.Frame.the-variants.{Closed, Open}
 use Rattle.rules.specs.declared.Capture.{Capture}
-use Rattle.rules.specs.State.{is-open, is-taken, not-blanking, no-partial, raise, close-frame, with-syncs, with-pins, with-frame, with-rate, with-partial, with-waiting, with-registers, with-ris}
+use Rattle.rules.specs.State.{is-taken, not-blanking, no-partial, raise, close-frame, with-syncs, with-pins, with-frame, with-rate, with-partial, with-waiting, with-registers, with-ris}
 use Rattle.rules.specs.Capture.{Captured, no-word, next-rate, takes, captured, packed-bits, pack, rate-period, either-word}
-use Rattle.rules.specs.Codes.{in-line, coded-syncs, seeks, arrived, before, datum, each-datum, byte-in, taken-out, first-place, frame-opens, line-opens, closes, errs, line-start, obeyed, sought, at-code, at-byte, line-ended, frame-ended}
+use Rattle.rules.specs.Codes.{coded-syncs, arrived, before, datum, each-datum, byte-in, taken-out, first-place, frame-opens, line-opens, closes, errs, at-code, at-byte, frame-ended}
 use Rattle.rules.specs.WellFormed.{unused-bits}
 use Rattle.rules.proofs.WellFormed.{CaptureOk}
 use Rattle.laws.proofs.RegisterValues.{raised-other, half-enable}
 use Rattle.laws.proofs.CaptureParts.{none-partial, pins-syncs-ok, scan-ok, raise-ok, close-frame-ok}
 use Rattle.laws.proofs.Kept.{Kept, kept, then, sync-flags-kept, frame-closes-kept, next-rate-fits}
 use Rattle.laws.proofs.Moved.{pack-ok, grow}
+use Rattle.laws.proofs.ByCode.{by-code}
 
 pub record Left (s : Capture) (c : Captured) : Type 0 where
   pub ok : (n : ℕ) → CaptureOk n s → CaptureOk (n + 1) (c .state)
@@ -159,40 +159,14 @@ errs-left s =
       pins = refl;
     }
 
--- Every meaning.
-closed-when : (f : Frame) → is-open f ≡ false → f ≡ Closed
-closed-when Closed e = refl
-closed-when (Open taken f) e = absurd (true≢false e)
+still-left : {s t : Capture} → Kept s t → Left s (no-word t)
+unfolding no-word
+still-left k = kept-left k
 
-line-start-left : (f : Frame) (s : Capture) → s .frame ≡ f → enable (s .registers .cr) ≡ true → Left s (line-start f s)
-unfolding line-start
-line-start-left Closed s in-f on = either (Left s) (by-line-starts (s .registers .escr)) (frame-opens-left s in-f on) (errs-left s)
-line-start-left (Open taken f) s in-f on = either (Left s) (in-line s) (errs-left s) (line-opens-left s taken f in-f)
-
-obeyed-left : (m : Meaning) (s : Capture) → enable (s .registers .cr) ≡ true → Left s (obeyed m s)
-unfolding obeyed no-word
-obeyed-left FrameEnd s on = either (Left s) (is-open (s .frame)) (closes-left s frame-ended) (kept-left (kept s))
-obeyed-left FrameStart s on =
-    by-cond (Left s) (is-open (s .frame)) _ _ (λ t. errs-left s) (λ t. frame-opens-left s (closed-when (s .frame) t) on)
-obeyed-left LineEnd s on = either (Left s) (in-line s) (closes-left s line-ended) (errs-left s)
-obeyed-left LineStart s on = line-start-left (s .frame) s refl on
-obeyed-left Unmatched s on = kept-left (kept s)
-
-sought-left : (m : Meaning) (s : Capture) → s .frame ≡ Closed → enable (s .registers .cr) ≡ true → Left s (no-word (sought m s))
-unfolding sought no-word
-sought-left FrameEnd s closed on =
-    either (λ (t : Capture). Left s (no-word t)) (by-line-starts (s .registers .escr)) (kept-left (syncs-kept frame-ended s)) (kept-left (kept s))
-sought-left FrameStart s closed on = frame-opens-left s closed on
-sought-left LineEnd s closed on = kept-left (kept s)
-sought-left LineStart s closed on = kept-left (kept s)
-sought-left Unmatched s closed on = kept-left (kept s)
-
+-- Every code.
 at-code-left : (m : Meaning) (s : Capture) → enable (s .registers .cr) ≡ true → Left s (at-code m s)
-unfolding at-code seeks
 at-code-left m s on =
-    by-cond (Left s) (not (is-open (s .frame)) && not (s .syncs .vsync)) _ _
-    (λ t. sought-left m s (closed-when (s .frame) (not-true _ (and-true _ _ t .0))) on)
-    (λ t. obeyed-left m s on)
+    by-code (Left s) s (still-left (kept s)) (closes-left s) (errs-left s) (λ e. frame-opens-left s e on) (line-opens-left s) (λ e. still-left (syncs-kept frame-ended s)) m
 
 -- Data of an open line, in order: the partial word alone changes. Without a word so many join it at most; a word comes where they reach so many as it takes, and the last
 -- of them at most are left.

@@ -9,18 +9,17 @@ use Rattle.bits.specs.Bits.{bit}
 use Rattle.bits.proofs.Booleans.{either}
 use Rattle.registers.specs.Control.{embedded}
 use Rattle.codes.specs.declared.Meaning.{Meaning}
-use Rattle.codes.specs.declared.Meaning.the-variants.{FrameEnd, FrameStart, LineEnd, LineStart, Unmatched}
 use Rattle.codes.specs.Bytes.{waiting-count, is-code, waiting-after, released}
-use Rattle.codes.specs.Meaning.{meaning, by-line-starts}
 use Rattle.rules.specs.declared.Scan.{Scan}
 use Rattle.rules.specs.declared.Frame.{Frame}
 use Rattle.rules.specs.declared.Frame.the-variants.{Closed, Open}
 use Rattle.rules.specs.declared.Capture.{Capture}
-use Rattle.rules.specs.State.{is-open, no-partial, raise, close-frame, with-syncs, with-frame, with-partial, with-registers, with-ris}
+use Rattle.rules.specs.State.{no-partial, raise, close-frame, with-syncs, with-frame, with-partial, with-registers, with-ris}
 use Rattle.rules.specs.Capture.{Captured, no-word, working-edge, enabled, at-edge}
-use Rattle.rules.specs.Codes.{in-line, seeks, arrived, each-datum, byte-in, closes, errs, line-start, obeyed, at-code, at-byte}
+use Rattle.rules.specs.Codes.{seeks, arrived, each-datum, byte-in, closes, errs, at-code, at-byte}
 use Rattle.rules.specs.Sample.{edge, capture-sample}
 use Rattle.laws.proofs.RegisterValues.{raised-up}
+use Rattle.laws.proofs.ByCode.{by-code, by-sample}
 
 -- Where ERR rises: the frame closed, the partial word dropped, only a frame start counts, and FRAME is not due.
 pub record Fallen (c : Captured) : Type 0 where
@@ -43,18 +42,9 @@ errs-said : (s : Capture) → Said (errs s)
 unfolding errs raise with-registers with-ris close-frame with-frame with-partial with-syncs seeks
 errs-said s = record { alone = λ e. refl; risen = λ e. raised-up 2 (s .registers .ris); fallen = λ e. record { frame = refl; partial = refl; seeking = refl; due = refl } }
 
-line-start-said : (f : Frame) (s : Capture) → Said (line-start f s)
-unfolding line-start no-word
-line-start-said Closed s = either Said (by-line-starts (s .registers .escr)) (silent _ refl) (errs-said s)
-line-start-said (Open taken f) s = either Said (in-line s) (errs-said s) (silent _ refl)
-
-obeyed-said : (m : Meaning) (s : Capture) → Said (obeyed m s)
-unfolding obeyed no-word closes
-obeyed-said FrameEnd s = either Said (is-open (s .frame)) (silent _ refl) (silent _ refl)
-obeyed-said FrameStart s = either Said (is-open (s .frame)) (errs-said s) (silent _ refl)
-obeyed-said LineEnd s = either Said (in-line s) (silent _ refl) (errs-said s)
-obeyed-said LineStart s = line-start-said (s .frame) s
-obeyed-said Unmatched s = silent _ refl
+at-code-said : (m : Meaning) (s : Capture) → Said (at-code m s)
+unfolding no-word closes
+at-code-said m s = by-code Said s (silent _ refl) (λ now. silent _ refl) (errs-said s) (λ e. silent _ refl) (λ taken f e. silent _ refl) (λ e. silent _ refl) m
 
 -- Another byte.
 each-silent : (s : Capture) (taken : Bool) (f : Scan) (xs : List ℕ) (still : ℕ) → each-datum s taken f xs still .error ≡ false
@@ -69,17 +59,13 @@ byte-in-silent (Open taken f) s x =
     either (λ (c : Captured). c .error ≡ false) (s .syncs .hsync) refl (each-silent _ taken (arrived f) (released (s .waiting) x) (waiting-count (waiting-after (s .waiting) x)))
 
 at-byte-said : (s : Capture) (x : ℕ) → Said (at-byte s x)
-unfolding at-byte at-code no-word
-at-byte-said s x =
-    either Said (is-code (s .waiting))
-    (either Said (seeks _) (silent _ refl) (obeyed-said (meaning (s .registers .escr) (s .registers .esur) x) _))
-    (silent _ (byte-in-silent (s .frame) s x))
+unfolding at-byte
+at-byte-said s x = either Said (is-code (s .waiting)) (at-code-said _ _) (silent _ (byte-in-silent (s .frame) s x))
 
 -- A sample.
 sample-said : (s : Capture) (w : ℕ) → Said (capture-sample s w)
-unfolding capture-sample edge at-edge no-word
-sample-said s w =
-    either Said (working-edge s w && enabled s) (either Said (embedded (s .registers .cr)) (at-byte-said _ _) (silent _ refl)) (silent _ refl)
+unfolding at-edge no-word
+sample-said s w = by-sample Said s w (at-byte-said _ _) (silent _ refl) (silent _ refl)
 
 pub no-word-in-error : (s : Capture) (w : ℕ) → capture-sample s w .error ≡ true → capture-sample s w .word ≡ none
 no-word-in-error s w = sample-said s w .alone

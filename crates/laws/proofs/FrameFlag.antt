@@ -15,9 +15,8 @@ use Rattle.packing.specs.Packing.{per-word}
 use Rattle.samples.specs.Samples.{pixel-data}
 use Rattle.codes.specs.declared.Waiting.the-variants.{Zero}
 use Rattle.codes.specs.declared.Meaning.{Meaning}
-use Rattle.codes.specs.declared.Meaning.the-variants.{FrameEnd, FrameStart, LineEnd, LineStart, Unmatched}
 use Rattle.codes.specs.Bytes.{waiting-count, is-code, waiting-after, released}
-use Rattle.codes.specs.Meaning.{meaning, by-line-starts}
+use Rattle.codes.specs.Meaning.{meaning}
 use Rattle.output.specs.declared.Fate.{Fate}
 use Rattle.output.specs.declared.Fate.the-variants.{Held, Lost}
 use Rattle.output.specs.Output.{OutputState, offer}
@@ -27,15 +26,16 @@ use Rattle.rules.specs.declared.Frame.{Frame}
 use Rattle.rules.specs.declared.Frame.the-variants.{Closed, Open}
 use Rattle.rules.specs.declared.Capture.{Capture}
 use Rattle.rules.specs.declared.Device.{Device}
-use Rattle.rules.specs.State.{is-open, not-blanking, with-waiting, with-cr, with-ris, with-registers, with-pins, with-syncs, with-frame, with-rate, with-partial, raise, clear-capture, close-frame}
+use Rattle.rules.specs.State.{not-blanking, with-waiting, with-cr, with-ris, with-registers, with-pins, with-syncs, with-frame, with-rate, with-partial, raise, clear-capture, close-frame}
 use Rattle.rules.specs.Capture.{Captured, no-word, flagged, working-edge, enabled, remember-pins, blanking, any-blanks, vsync-flag, line-flag, sync-flags, window-ended, hsync-after-window, frame-rises, frame-due, end-of, frame-closes, frame-end, starts, open-frame, start-of, frame-start, next-pixel, captured, pack, pixel, pixel-in, pixel-edge, at-edge}
-use Rattle.rules.specs.Codes.{in-line, coded-syncs, seeks, arrived, byte-in, taken-out, frame-opens, line-opens, closes, errs, line-start, obeyed, sought, at-code, at-byte, line-ended, frame-ended}
+use Rattle.rules.specs.Codes.{coded-syncs, arrived, byte-in, taken-out, frame-opens, line-opens, closes, errs, at-code, at-byte}
 use Rattle.rules.specs.Sample.{byte-of, edge, capture-sample}
 use Rattle.rules.specs.Run.{lose-frame, after-word, full-word, complete, after-grant, step}
 use Rattle.laws.specs.FrameHistory.{byte-due, due-at, is-lost}
 use Rattle.laws.proofs.RegisterValues.{raised-other, raised-up}
 use Rattle.laws.proofs.FrameEdges.{with-flags, sync-flags-flagged}
 use Rattle.laws.proofs.FrameCodes.{each-same, due-by-codes, pins-byte-due}
+use Rattle.laws.proofs.ByCode.{by-code, by-sample}
 
 -- FRAME is 1.
 abbrev flag : Capture → Bool
@@ -114,26 +114,9 @@ opens-flag : (s : Capture) → flag (frame-opens s) ≡ flag s
 unfolding frame-opens with-syncs with-rate with-frame
 opens-flag s = either (λ (t : Capture). flag (with-syncs not-blanking t) ≡ flag s) (capture (s .registers .cr)) refl refl
 
-line-start-flag : (f : Frame) (s : Capture) → flag (line-start f s .state) ≡ flag s
-unfolding line-start no-word line-opens with-syncs with-frame
-line-start-flag Closed s = either (λ (c : Captured). flag (c .state) ≡ flag s) (by-line-starts (s .registers .escr)) (opens-flag s) (errs-flag s)
-line-start-flag (Open taken f) s = either (λ (c : Captured). flag (c .state) ≡ flag s) (in-line s) (errs-flag s) refl
-
-obeyed-flag : (m : Meaning) (s : Capture) → flag (obeyed m s .state) ≡ flag s
-unfolding obeyed no-word
-obeyed-flag FrameEnd s = either (λ (c : Captured). flag (c .state) ≡ flag s) (is-open (s .frame)) (closes-flag s frame-ended) refl
-obeyed-flag FrameStart s = either (λ (c : Captured). flag (c .state) ≡ flag s) (is-open (s .frame)) (errs-flag s) (opens-flag s)
-obeyed-flag LineEnd s = either (λ (c : Captured). flag (c .state) ≡ flag s) (in-line s) (closes-flag s line-ended) (errs-flag s)
-obeyed-flag LineStart s = line-start-flag (s .frame) s
-obeyed-flag Unmatched s = refl
-
-sought-flag : (m : Meaning) (s : Capture) → flag (sought m s) ≡ flag s
-unfolding sought with-syncs
-sought-flag FrameEnd s = either (λ (t : Capture). flag t ≡ flag s) (by-line-starts (s .registers .escr)) refl refl
-sought-flag FrameStart s = opens-flag s
-sought-flag LineEnd s = refl
-sought-flag LineStart s = refl
-sought-flag Unmatched s = refl
+at-code-flag : (m : Meaning) (s : Capture) → flag (at-code m s .state) ≡ flag s
+unfolding no-word line-opens with-syncs with-frame
+at-code-flag m s = by-code (λ c. flag (c .state) ≡ flag s) s refl (closes-flag s) (errs-flag s) (λ e. opens-flag s) (λ taken f e. refl) (λ e. refl) m
 
 taken-out-flag : (f : Frame) (s : Capture) → flag (taken-out f s) ≡ flag s
 unfolding taken-out with-frame
@@ -148,23 +131,16 @@ byte-in-flag (Open taken f) s x =
     (rw (each-same _ taken (arrived f) (released (s .waiting) x) (waiting-count (waiting-after (s .waiting) x)) .registers))
 
 at-byte-flag : (s : Capture) (x : ℕ) → flag (at-byte s x .state) ≡ flag s
-unfolding at-byte at-code no-word with-waiting
+unfolding at-byte with-waiting
 at-byte-flag s x =
-    let t = with-waiting Zero (taken-out (s .frame) s) in
     let m = meaning (s .registers .escr) (s .registers .esur) x in
-    let P : Captured → Type 0 = λ c. flag (c .state) ≡ flag s in
-    either P (is-code (s .waiting))
-    (either P (seeks t) (sought-flag m t ∙ taken-out-flag (s .frame) s) (obeyed-flag m t ∙ taken-out-flag (s .frame) s))
-    (byte-in-flag (s .frame) s x)
+    either (λ (c : Captured). flag (c .state) ≡ flag s) (is-code (s .waiting)) (at-code-flag m (with-waiting Zero (taken-out (s .frame) s)) ∙ taken-out-flag (s .frame) s) (byte-in-flag (s .frame) s x)
 
 -- A sample.
 sample-flag : (s : Capture) (w : ℕ) → flag (capture-sample s w .state) ≡ flag s
-unfolding capture-sample edge no-word remember-pins with-pins
+unfolding no-word remember-pins with-pins
 sample-flag s w =
-    let P : Captured → Type 0 = λ c. flag (c .state) ≡ flag s in
-    either P (working-edge s w && enabled s)
-    (either P (embedded (s .registers .cr)) (at-byte-flag (remember-pins w s) (byte-of w)) (at-edge-flag (remember-pins w s) (blanking s w) (pixel-data w)))
-    refl
+    by-sample (λ c. flag (c .state) ≡ flag s) s w (at-byte-flag (remember-pins w s) (byte-of w)) (at-edge-flag (remember-pins w s) (blanking s w) (pixel-data w)) refl
 
 pub sample-due : (s : Capture) (w : ℕ) → capture-sample s w .due ≡ due-at s w
 unfolding capture-sample edge no-word remember-pins due-at

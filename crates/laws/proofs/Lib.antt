@@ -3,6 +3,7 @@ pub mod RegisterValues
 pub mod CaptureParts
 pub mod Kept
 pub mod Moved
+pub mod ByCode
 pub mod Coded
 pub mod Errors
 pub mod Sampled

@@ -1,13 +1,13 @@
 -- In an open frame VSYNC does not blank, over every depth and every list of calls (`open-frame-runs`): what `lost-at-once` asks for (W6). The idea: where VSYNC blanks, by its pin or by a frame end code, no frame
 -- is open after the edge; a write that opens none leaves the rest. Assumes nothing.
-use mathlib.Core.Bool.{Bool, true, false, _&&_}
+use mathlib.Core.Bool.{Bool, true, false, cond}
 use mathlib.Core.List.{List, [], _∷_}
 use mathlib.Core.Path.{_≡_, refl}
 use Prim.Native.Nat.{ℕ}
 use lib.Dec.{eqb, ltb}
 use lib.ListN.{drop}
 use Rattle.bits.proofs.Booleans.{either}
-use Rattle.registers.specs.Control.{capture, embedded, enable}
+use Rattle.registers.specs.Control.{capture, enable}
 use Rattle.registers.specs.Map.{register-at}
 use Rattle.registers.specs.declared.Register.the-variants.{Control, Status, RawStatus, InterruptEnable, MaskedStatus, InterruptClear, EmbeddedCode, EmbeddedUnmask, WindowStart, WindowSize}
 use Rattle.registers.specs.declared.Found.{Found}
@@ -16,18 +16,16 @@ use Rattle.refusals.specs.Refusals.{_⇒_, first}
 use Rattle.samples.specs.Samples.{pixel-data}
 use Rattle.codes.specs.declared.Waiting.the-variants.{Zero}
 use Rattle.codes.specs.declared.Meaning.{Meaning}
-use Rattle.codes.specs.declared.Meaning.the-variants.{FrameEnd, FrameStart, LineEnd, LineStart, Unmatched}
 use Rattle.codes.specs.Bytes.{waiting-count, is-code, waiting-after, released}
-use Rattle.codes.specs.Meaning.{meaning, by-line-starts}
+use Rattle.codes.specs.Meaning.{meaning}
 use Rattle.rules.specs.declared.Syncs.{Syncs}
-use Rattle.rules.specs.declared.Scan.{Scan}
 use Rattle.rules.specs.declared.Frame.{Frame}
 use Rattle.rules.specs.declared.Frame.the-variants.{Closed, Open}
 use Rattle.rules.specs.declared.Capture.{Capture}
 use Rattle.rules.specs.declared.Device.{Device}
 use Rattle.rules.specs.State.{fresh-of, fresh-capture, raise, close-frame, with-cr, with-ris, with-ier, with-cwstrt, with-cwsize, with-escr, with-esur, with-registers, with-pins, with-syncs, with-frame, with-rate, with-partial, with-waiting}
-use Rattle.rules.specs.Capture.{Captured, no-word, flagged, working-edge, enabled, remember-pins, blanking, end-of, frame-closes, at-edge}
-use Rattle.rules.specs.Codes.{in-line, coded-syncs, seeks, arrived, byte-in, taken-out, frame-opens, line-opens, closes, errs, line-start, obeyed, sought, at-code, at-byte, line-ended, frame-ended}
+use Rattle.rules.specs.Capture.{Captured, no-word, flagged, remember-pins, blanking, end-of, frame-closes, at-edge}
+use Rattle.rules.specs.Codes.{arrived, byte-in, taken-out, frame-opens, line-opens, closes, errs, at-code, at-byte}
 use Rattle.rules.specs.Sample.{byte-of, edge, capture-sample}
 use Rattle.rules.specs.RegisterCalls.{enabling, disabling, switch-enable, capture-rises, switch-capture, write-control, clear-flags, write-register, write-at, write-refusal, write, rearmed, rearm}
 use Rattle.rules.specs.Run.{lose-frame, after-grant, step, steps, run-refusal, run, sample}
@@ -36,8 +34,9 @@ use Rattle.laws.specs.Histories.{Call, a-write, a-rearming, a-placing, a
 use Rattle.laws.specs.Seeking.{Runs-in, Runs}
 use Rattle.laws.proofs.KeepsSample.{by-word}
 use Rattle.laws.proofs.Conservation.{calls-keep}
-use Rattle.laws.proofs.FrameEdges.{blanks, flags-flagged, at-edge-closed}
-use Rattle.laws.proofs.FrameCodes.{placed, each-same}
+use Rattle.laws.proofs.FrameEdges.{blanks, at-edge-closed}
+use Rattle.laws.proofs.FrameCodes.{each-same}
+use Rattle.laws.proofs.ByCode.{by-code, by-sample}
 
 -- Whatever the frame, where VSYNC does not blank; whatever it is, where no frame is open.
 runs-on : (f : Frame) → Runs-in f false
@@ -65,35 +64,22 @@ errs-runs : (s : Capture) → Runs (errs s .state)
 unfolding errs close-frame with-frame with-partial with-syncs raise with-registers with-ris
 errs-runs s = tt
 
-line-end-runs : (s : Capture) → Runs (closes s line-ended .state)
-unfolding closes with-syncs
-line-end-runs s = runs-on (closes s line-ended .state .frame)
+end-closed : (f : Frame) (s : Capture) → s .frame ≡ f → end-of f s .frame ≡ Closed
+unfolding end-of close-frame with-partial with-frame
+end-closed Closed s e = e
+end-closed (Open taken f) s e = refl
 
-frame-end-runs : (taken : Bool) (f : Scan) (hsync vsync : Bool) (s : Capture) → Runs (closes (placed (Open taken f) hsync vsync s) frame-ended .state)
-unfolding closes frame-closes end-of close-frame with-frame with-partial with-syncs with-registers with-ris
-frame-end-runs taken f hsync vsync s =
-    let t = placed (Open taken f) hsync vsync s in
-    rw (flags-flagged (capture (t .registers .cr)) (with-syncs (coded-syncs t) t) frame-ended .is) tt
+closes-runs : (s : Capture) (now : Syncs) → Runs (closes s now .state)
+unfolding closes frame-closes with-syncs
+closes-runs s now = go (now .vsync) _
+  where
+    go : (vsync : Bool) (t : Capture) → Runs-in (cond vsync (end-of (t .frame) t) t .frame) vsync
+    go true t = none-runs _ true (end-closed (t .frame) t refl)
+    go false t = runs-on (t .frame)
 
-code-runs : (m : Meaning) (f : Frame) (hsync vsync : Bool) (s : Capture) → Runs-in f vsync → Runs (at-code m (placed f hsync vsync s) .state)
-unfolding with-syncs with-frame at-code seeks sought obeyed no-word line-start in-line line-opens
-code-runs FrameEnd Closed hsync true s runs = tt
-code-runs FrameEnd Closed hsync false s runs = either (λ (t : Capture). Runs t) (by-line-starts (s .registers .escr)) tt tt
-code-runs FrameEnd (Open taken f) hsync vsync s runs = frame-end-runs taken f hsync vsync s
-code-runs FrameStart Closed hsync true s runs = opens-runs _
-code-runs FrameStart Closed hsync false s runs = opens-runs _
-code-runs FrameStart (Open taken f) hsync vsync s runs = errs-runs _
-code-runs LineEnd Closed hsync true s runs = errs-runs _
-code-runs LineEnd Closed hsync false s runs = tt
-code-runs LineEnd (Open taken f) true vsync s runs = errs-runs _
-code-runs LineEnd (Open taken f) false vsync s runs = line-end-runs _
-code-runs LineStart Closed hsync true s runs = either (λ (c : Captured). Runs (c .state)) (by-line-starts (s .registers .escr)) (opens-runs _) (errs-runs _)
-code-runs LineStart Closed hsync false s runs = tt
-code-runs LineStart (Open taken f) true vsync s runs = refl
-code-runs LineStart (Open taken f) false vsync s runs = errs-runs _
-code-runs Unmatched Closed hsync true s runs = tt
-code-runs Unmatched Closed hsync false s runs = tt
-code-runs Unmatched (Open taken f) hsync vsync s runs = runs
+code-runs : (m : Meaning) (s : Capture) → Runs s → Runs (at-code m s .state)
+unfolding no-word line-opens with-syncs with-frame
+code-runs m s runs = by-code (λ c. Runs (c .state)) s runs (closes-runs s) (errs-runs s) (λ e. opens-runs s) (λ taken f e. refl) (λ e. none-runs _ true e) m
 
 byte-in-runs : (f : Frame) (s : Capture) (x : ℕ) → s .frame ≡ f → Runs-in f (s .syncs .vsync) → Runs (byte-in f s x .state)
 unfolding byte-in no-word with-waiting with-frame
@@ -114,17 +100,13 @@ at-byte-runs s x runs =
     let t = taken-out (s .frame) s in
     let m = meaning (s .registers .escr) (s .registers .esur) x in
     either (λ (c : Captured). Runs (c .state)) (is-code (s .waiting))
-    (code-runs m (t .frame) (t .syncs .hsync) (t .syncs .vsync) (with-waiting Zero t) (out-runs (s .frame) s refl runs))
+    (code-runs m (with-waiting Zero t) (out-runs (s .frame) s refl runs))
     (byte-in-runs (s .frame) s x refl runs)
 
 -- A sample.
 sample-runs : (s : Capture) (w : ℕ) → Runs s → Runs (capture-sample s w .state)
-unfolding capture-sample edge no-word remember-pins with-pins
-sample-runs s w runs =
-    let P : Captured → Type 0 = λ c. Runs (c .state) in
-    either P (working-edge s w && enabled s)
-    (either P (embedded (s .registers .cr)) (at-byte-runs (remember-pins w s) (byte-of w) runs) (at-edge-runs (remember-pins w s) (blanking s w) (pixel-data w)))
-    runs
+unfolding no-word remember-pins with-pins
+sample-runs s w runs = by-sample (λ c. Runs (c .state)) s w (at-byte-runs (remember-pins w s) (byte-of w) runs) (at-edge-runs (remember-pins w s) (blanking s w) (pixel-data w)) runs
 
 flagged-runs : (c : Captured) → Runs (c .state) → Runs (flagged c)
 unfolding flagged raise with-registers with-ris

@@ -16,22 +16,22 @@ use Rattle.packing.specs.Packing.{per-word}
 use Rattle.codes.specs.declared.Waiting.{Waiting}
 use Rattle.codes.specs.declared.Waiting.the-variants.{Zero, One, Two, Three}
 use Rattle.codes.specs.declared.Meaning.{Meaning}
-use Rattle.codes.specs.declared.Meaning.the-variants.{FrameEnd, FrameStart, LineEnd, LineStart, Unmatched}
 use Rattle.codes.specs.Bytes.{waiting-count, is-code, waiting-after, released}
-use Rattle.codes.specs.Meaning.{meaning, by-line-starts}
+use Rattle.codes.specs.Meaning.{meaning}
 use Rattle.codes.proofs.Bytes.{one-byte-count, few-released}
 use Rattle.rules.specs.declared.Syncs.{Syncs}
 use Rattle.rules.specs.declared.Scan.{Scan}
 use Rattle.rules.specs.declared.Frame.{Frame}
 use Rattle.rules.specs.declared.Frame.the-variants.{Closed, Open}
 use Rattle.rules.specs.declared.Capture.{Capture}
-use Rattle.rules.specs.State.{is-open, not-blanking, raise, clear-capture, close-frame, with-cr, with-ris, with-registers, with-syncs, with-frame, with-rate, with-partial, with-waiting}
+use Rattle.rules.specs.State.{not-blanking, raise, clear-capture, close-frame, with-cr, with-ris, with-registers, with-syncs, with-frame, with-rate, with-partial, with-waiting}
 use Rattle.rules.specs.Capture.{Captured, no-word, sync-flags, end-of, frame-closes, captured, pack}
-use Rattle.rules.specs.Codes.{in-line, coded-syncs, seeks, arrived, before, datum, each-datum, byte-in, taken-out, frame-opens, line-opens, closes, errs, line-start, obeyed, sought, at-code, at-byte, line-ended, frame-ended}
+use Rattle.rules.specs.Codes.{coded-syncs, arrived, before, datum, each-datum, byte-in, taken-out, frame-opens, line-opens, closes, errs, at-code, at-byte}
 use Rattle.laws.specs.OneWord.{one-if, words-filled}
 use Rattle.laws.proofs.Moved.{Paced}
 use Rattle.laws.proofs.Coded.{Grown, each-joined}
 use Rattle.laws.proofs.FrameEdges.{flags-flagged}
+use Rattle.laws.proofs.ByCode.{by-code}
 
 few-wait : (k : Waiting) → is-code k ≡ false → waiting-count k ≤ 2
 few-wait Zero e = omega arith
@@ -80,30 +80,9 @@ opens-quiet s =
     (record { word = refl; waiting = refl; fewer = omega arith })
     (record { word = refl; waiting = refl; fewer = omega arith })
 
-line-start-quiet : (f : Frame) (s : Capture) → Quiet s (line-start f s)
-unfolding line-start no-word line-opens with-syncs with-frame
-line-start-quiet Closed s = either (Quiet s) (by-line-starts (s .registers .escr)) (opens-quiet s) (errs-quiet s)
-line-start-quiet (Open taken f) s = either (Quiet s) (in-line s) (errs-quiet s) (record { word = refl; waiting = refl; fewer = omega arith })
-
-obeyed-quiet : (m : Meaning) (s : Capture) → Quiet s (obeyed m s)
-unfolding obeyed
-obeyed-quiet FrameEnd s = either (Quiet s) (is-open (s .frame)) (closes-quiet s frame-ended) (none-quiet s)
-obeyed-quiet FrameStart s = either (Quiet s) (is-open (s .frame)) (errs-quiet s) (opens-quiet s)
-obeyed-quiet LineEnd s = either (Quiet s) (in-line s) (closes-quiet s line-ended) (errs-quiet s)
-obeyed-quiet LineStart s = line-start-quiet (s .frame) s
-obeyed-quiet Unmatched s = none-quiet s
-
-sought-quiet : (m : Meaning) (s : Capture) → Quiet s (no-word (sought m s))
-unfolding sought no-word with-syncs
-sought-quiet FrameEnd s = either (λ (t : Capture). Quiet s (no-word t)) (by-line-starts (s .registers .escr)) (record { word = refl; waiting = refl; fewer = omega arith }) (none-quiet s)
-sought-quiet FrameStart s = opens-quiet s
-sought-quiet LineEnd s = none-quiet s
-sought-quiet LineStart s = none-quiet s
-sought-quiet Unmatched s = none-quiet s
-
 at-code-quiet : (m : Meaning) (s : Capture) → Quiet s (at-code m s)
-unfolding at-code
-at-code-quiet m s = either (Quiet s) (seeks s) (sought-quiet m s) (obeyed-quiet m s)
+unfolding no-word line-opens with-syncs with-frame
+at-code-quiet m s = let same : Quiet s (no-word s) = none-quiet s in by-code (Quiet s) s same (closes-quiet s) (errs-quiet s) (λ e. opens-quiet s) (λ taken f e. record { word = refl; waiting = refl; fewer = omega arith }) (λ e. record { word = refl; waiting = refl; fewer = omega arith }) m
 
 pub at-code-word : (m : Meaning) (s : Capture) → at-code m s .word ≡ none
 at-code-word m s = at-code-quiet m s .word
