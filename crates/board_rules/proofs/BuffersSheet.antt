@@ -21,7 +21,7 @@ use Rattle.buffers.specs.Kept.{keep, keeps, landed-at}
 use Rattle.refusals.specs.Refusals as refusals
 use Rattle.rules.specs.Run.{Packed, nothing, lost}
 use Rattle.rules.proofs.EveryRule.{every-rule}
-use Rattle.rules.proofs.BenchSheet.{CR, RIS, edges, blank}
+use Rattle.rules.proofs.BenchSheet.{CR, RIS, CWSIZE, edges, blank, line-gap, idle, words-are, no-slots}
 use Rattle.rules.proofs.CodesSheet.{ESCR, ESUR, FS, LS}
 use Rattle.board_rules.specs.declared.Mode.the-variants.{One, Two}
 use Rattle.board_rules.specs.declared.Board.{Board}
@@ -254,6 +254,18 @@ in-turn =
     a-write CR 0x08E0 ▸ done ∷
     handed ▸ frame A (pixels 1 2) ∷
     []) ∷
+    -- W1: FRAME has risen early, and all words have landed; complete at frame end
+    log (fresh-of 4) usual
+    (two-buffers ▸ done ∷
+    a-write CWSIZE 1 ▸ done ∷
+    a-write CR 0x48E5 ▸ done ∷
+    feed (blank ∷ 1 ∷ 2 ∷ line-gap ∷ []) ∷
+    lands A 0 ∷
+    a-read RIS ▸ reads 0x19 ∷
+    handed ▸ no-frame ∷
+    feed (blank ∷ []) ∷
+    handed ▸ frame A (pixels 1 2) ∷
+    []) ∷
     []
 
 -- A board for JPEG, and for codes as CodesSheet has them.
@@ -289,6 +301,19 @@ not-complete =
     the-places ▸ places 0 0 ∷
     feed (3 ∷ 4 ∷ []) ∷
     lands A 0 ∷
+    feed (blank ∷ []) ∷
+    handed ▸ no-frame ∷
+    []) ∷
+    -- in B too: its place is 0 again, and a frame's second word lands there
+    two 4 usual
+    (feed (blank ∷ 1 ∷ 2 ∷ blank ∷ 3 ∷ 4 ∷ []) ∷
+    lands A 0 ∷
+    lands B 4 ∷
+    the-places ▸ places 1 1 ∷
+    a-rearming ▸ done ∷
+    the-places ▸ places 0 0 ∷
+    feed (5 ∷ 6 ∷ []) ∷
+    lands B 4 ∷
     feed (blank ∷ []) ∷
     handed ▸ no-frame ∷
     []) ∷
@@ -365,6 +390,17 @@ the-modes =
     one-run (edges (blank ∷ 5 ∷ 6 ∷ [])) ▸ done ∷
     one-sample 0x2C000 ▸ at 0 nothing ∷
     []) ∷
+    -- one again: it re-arms too
+    log (fresh-of 4) usual
+    (a-write CR 0x48E1 ▸ done ∷
+    one-run (edges (blank ∷ 1 ∷ 2 ∷ blank ∷ [])) ▸ done ∷
+    one-sample 0x2C000 ▸ at 0 nothing ∷
+    the-places ▸ places 1 0 ∷
+    one-buffer ▸ refused 6 ∷
+    a-write CR 0x08E0 ▸ done ∷
+    one-buffer ▸ done ∷
+    the-places ▸ places 0 0 ∷
+    []) ∷
     []
 
 unfoldable pub mode-refusals : List Log
@@ -381,6 +417,30 @@ mode-refusals =
     a-sample 0x40000 ▸ refused 7 ∷
     handed-of (lending 3 4 12 0) ▸ refused 9 ∷
     handed-of (lending 12 0 3 4) ▸ refused 9 ∷
+    []) ∷
+    -- 16 before 9, of runs and samples
+    log (fresh-of 4) usual (a-run-of (lending 3 4 12 0) [] ▸ refused 16 ∷ []) ∷
+    two 4 (lending 3 4 12 0) (one-run [] ▸ refused 16 ∷ one-sample 0 ▸ refused 16 ∷ []) ∷
+    -- 8, after 7
+    log (record { device = idle (words-are no-slots 0 0 4294967294 0 0 0); mode = Two fresh-turns }) usual
+    (a-run (0 ∷ 0 ∷ []) ▸ refused 8 ∷
+    a-run (0 ∷ 0x40000 ∷ []) ▸ refused 7 ∷
+    a-sample 0 ▸ sampled none nothing ∷
+    a-sample 0 ▸ refused 8 ∷
+    a-run [] ▸ done ∷
+    []) ∷
+    -- 1, of every call, for B's place alone; before 6, 9 and 7
+    log (record { device = calls.write (fresh-of 4) 0 0x4000 .board .device; mode = Two (with-place-b 1 fresh-turns) }) usual
+    (a-read CR ▸ refused 1 ∷
+    a-write CR 0 ▸ refused 1 ∷
+    a-rearming ▸ refused 1 ∷
+    one-buffer ▸ refused 1 ∷
+    two-buffers ▸ refused 1 ∷
+    one-run [] ▸ refused 1 ∷
+    one-sample 0 ▸ refused 1 ∷
+    a-run-of (lending 3 4 12 0) (0x40000 ∷ []) ▸ refused 1 ∷
+    a-sample 0x40000 ▸ refused 1 ∷
+    handed-of (lending 3 4 12 0) ▸ refused 1 ∷
     []) ∷
     -- 1 before 16, of every call
     log (record { device = fresh-of 0 .device; mode = One }) usual

@@ -1,1 +1,2 @@
 pub mod BoardInverse
+pub mod BoardImageSheet

@@ -6,7 +6,7 @@
 --   by-register the register map
 --   by-call     calls in a row, with what each tells: registers, refusals, writing CR, single samples, memory
 --   judged      devices at the bounds of "Malformed means one of"
--- and three facts that only the state shows.
+-- and what only the state shows.
 use mathlib.Core.Bool.{Bool, true, false, cond}
 use mathlib.Core.List.{List, [], _∷_, _++_, map}
 use mathlib.Core.Option.{Option, none, some}
@@ -15,10 +15,14 @@ use Prim.Native.Nat.{ℕ, zero, suc, _+_, _-_}
 use lib.Dec.{eqb}
 use lib.ListN.{length, drop, replicate}
 use Rattle.registers.specs.Map.{offset, every, access, is-control, is-fixed, reserved, mask}
+use Rattle.registers.specs.Control.{fcrc, edm}
+use Rattle.registers.specs.Window.{vst, hoffcnt, vline, capcnt}
+use Rattle.registers.specs.Codes.{fsc, lsc, lec, fec, fsu, lsu, leu, feu}
 use Rattle.registers.specs.declared.Register.{Register}
 use Rattle.registers.specs.declared.Register.the-variants.{Control, Status, RawStatus, InterruptEnable, InterruptClear, WindowStart, WindowSize}
 use Rattle.registers.specs.declared.Access.{Access}
 use Rattle.registers.specs.declared.Access.the-variants.{ReadWrite, ReadOnly, WriteOnly}
+use Rattle.samples.specs.Samples.{pixel-data}
 use Rattle.refusals.specs.Refusals as refusals
 use Rattle.output.specs.declared.Output.{Output}
 use Rattle.output.specs.Output.{slot-count, usual-depth, OutputState, word-at}
@@ -225,6 +229,7 @@ by-rule =
     case (CR ≔ 0x48E0 ∷ []) (edge line-gap) [] (leaves accepted [] 0 0 0x48E0 0x10 1) ∷
     case (CR ≔ 0x48E0 ∷ []) (edges (frame-gap ∷ blank ∷ [])) [] (leaves accepted [] 0 0 0x48E0 0x18 3) ∷
     case (CR ≔ 0x48E0 ∷ []) (edges (line-gap ∷ blank ∷ [])) [] (leaves accepted [] 0 0 0x48E0 0x18 3) ∷
+    case (CR ≔ 0x48E2 ∷ []) (edge blank) [] (leaves accepted [] 0 0 0x48E2 0x18 3) ∷
     -- rule 4: VSYNC alone closes an open frame, which drops the partial word
     case (CR ≔ 0x48E3 ∷ []) (edges (blank ∷ 1 ∷ frame-gap ∷ 2 ∷ [])) [] (leaves accepted [] 0 0 0x48E2 0x19 0) ∷
     -- rule 5: with CAPTURE 0 no frame starts; one starts while HSYNC blanks
@@ -327,6 +332,11 @@ by-register =
     mapped 0x20 ReadWrite 0xE000C000 false true ∷
     mapped 0x24 ReadWrite 0xC000C000 false true ∷
     []
+
+-- The fields of CR, CWSTRT, CWSIZE, ESCR and ESUR, and the data of a sample.
+abbrev pub fields : ℕ → List ℕ
+fields x =
+    fcrc x ∷ edm x ∷ vst x ∷ hoffcnt x ∷ vline x ∷ capcnt x ∷ fsc x ∷ lsc x ∷ lec x ∷ fec x ∷ fsu x ∷ lsu x ∷ leu x ∷ feu x ∷ pixel-data x ∷ []
 
 -- By call. A call on a device and the memory lent to it, or a look at the counts or at the memory.
 pub data Call : Type 0 where
@@ -460,6 +470,18 @@ capturing cr change =
     let d = run (write fresh CR cr .device) [] 0 (edges (blank ∷ 1 ∷ 2 ∷ 3 ∷ [])) .device in
     device (change (capture-of d)) (output-of d)
 
+-- What every register that holds a value of its own reads as.
+abbrev pub registers-are : ℕ → ℕ → ℕ → ℕ → ℕ → ℕ → ℕ → List Entry
+registers-are cr ris ier cwstrt cwsize escr esur =
+    a-read CR ▸ reads cr ∷
+    a-read RIS ▸ reads ris ∷
+    a-read IER ▸ reads ier ∷
+    a-read CWSTRT ▸ reads cwstrt ∷
+    a-read CWSIZE ▸ reads cwsize ∷
+    a-read 0x18 ▸ reads escr ∷
+    a-read 0x1C ▸ reads esur ∷
+    []
+
 -- What no case above shows.
 unfoldable pub by-call : List Log
 by-call =
@@ -506,6 +528,35 @@ by-call =
     a-read 0x10 ▸ reads 0 ∷
     a-read 0x20 ▸ reads 0x20001 ∷
     a-read 0x24 ▸ reads 2 ∷
+    the-line ▸ line false ∷
+    []) ∷
+    -- each register of its own: a write leaves every other, in one order and in the other
+    log fresh []
+    (a-write CR 0x48E1 ▸ done ∷
+    a-run 0 (edge blank) ▸ done ∷
+    a-write CR 0x08E0 ▸ done ∷
+    a-write IER 0x15 ▸ done ∷
+    a-write CWSTRT 0x10002 ▸ done ∷
+    a-write CWSIZE 0x30004 ▸ done ∷
+    a-write 0x18 0xD4C3B2A1 ▸ done ∷
+    a-write 0x1C 0x80402010 ▸ done ∷
+    registers-are 0x08E0 0x18 0x15 0x10002 0x30004 0xD4C3B2A1 0x80402010 ++
+    a-write 0x1C 0x08040201 ▸ done ∷
+    a-write 0x18 0xFF9D80FF ▸ done ∷
+    a-write CWSIZE 0x50006 ▸ done ∷
+    a-write CWSTRT 0x70008 ▸ done ∷
+    a-write IER 0x0A ▸ done ∷
+    registers-are 0x08E0 0x18 0x0A 0x70008 0x50006 0xFF9D80FF 0x08040201 ++
+    a-write ICR 0x08 ▸ done ∷
+    a-write CR 0x0440 ▸ done ∷
+    registers-are 0x0440 0x10 0x0A 0x70008 0x50006 0xFF9D80FF 0x08040201) ∷
+    -- the interrupt line for the lowest bit of MIS alone
+    log fresh []
+    (a-write CR 0x48E3 ▸ done ∷
+    a-write IER 1 ▸ done ∷
+    a-run 0 T ▸ done ∷
+    the-line ▸ line true ∷
+    a-write ICR 1 ▸ done ∷
     the-line ▸ line false ∷
     []) ∷
     -- refusals 2 and 3, before 4
@@ -569,6 +620,15 @@ by-call =
     the-memory ▸ holds (5 ∷ 0 ∷ 6 ∷ 0 ∷ []) ∷
     the-counts ▸ counts 18 2 1 1 0 1 ∷
     []) ∷
+    -- rule 2: with ENABLE 0 the sample is over, but its levels are remembered, and enabling leaves them: with PCKPOL 0 the clock falls at the next one. VSPOL is not PCKPOL
+    log fresh []
+    (a-write CR 0x00E0 ▸ done ∷
+    a-run 0 (edges (blank ∷ 1 ∷ blank ∷ [])) ▸ done ∷
+    a-read RIS ▸ reads 0 ∷
+    a-write CR 0x48C0 ▸ done ∷
+    a-run 0 (0x0C000 ∷ []) ▸ done ∷
+    a-read RIS ▸ reads 0x18 ∷
+    []) ∷
     -- CAPTURE 0 to 1 outside an open frame: the rate counter is 0, and the second frame is taken
     log fresh []
     (a-write CR 0x49E1 ▸ done ∷
@@ -577,6 +637,14 @@ by-call =
     a-write CR 0x49E1 ▸ done ∷
     a-run 0 (edges (3 ∷ 4 ∷ [])) ▸ done ∷
     the-counts ▸ counts 12 2 0 0 2 0 ∷
+    []) ∷
+    -- CAPTURE that stays 1 leaves it, and the second frame is not taken
+    log fresh []
+    (a-write CR 0x49E1 ▸ done ∷
+    a-run 0 (edges (blank ∷ 1 ∷ 2 ∷ blank ∷ [])) ▸ done ∷
+    a-write CR 0x49E1 ▸ done ∷
+    a-run 0 (edges (3 ∷ 4 ∷ [])) ▸ done ∷
+    the-counts ▸ counts 12 1 0 0 1 0 ∷
     []) ∷
     -- inside one it stays, and the second frame is not taken
     log fresh []
@@ -693,6 +761,13 @@ by-call =
     a-sample 1 0 ▸ refused 1 ∷
     the-counts ▸ counts 0 0 0 0 0 1 ∷
     []) ∷
+    -- nor does its memory change: place 2 above landed 0, a word held, granted
+    log (enabled-with (words-are (7 ∷ []) 1 2 9 1 0 0)) (replicate 12 0xEE)
+    (a-run 0 (0x20000 ∷ []) ▸ refused 1 ∷
+    a-sample 0 0x20000 ▸ refused 1 ∷
+    the-memory ▸ holds (replicate 12 0xEE) ∷
+    the-counts ▸ counts 9 1 0 0 1 2 ∷
+    []) ∷
     []
 
 -- Malformed devices. A device, and whether it is malformed.
@@ -716,7 +791,7 @@ judged =
     -- an unused FIFO slot not 0
     well (enabled-with (words-are (1 ∷ 2 ∷ 0 ∷ 0 ∷ []) 2 0 9 2 0 0)) ∷
     ill (enabled-with (words-are (1 ∷ 2 ∷ 3 ∷ 0 ∷ []) 2 0 9 2 0 0)) ∷
-    ill (enabled-with (words-are (1 ∷ 2 ∷ 0 ∷ 3 ∷ []) 2 0 9 2 0 0)) ∷
+    ill (enabled-with (words-are (1 ∷ 2 ∷ 0 ∷ 1 ∷ []) 2 0 9 2 0 0)) ∷
     -- unused partial bits not 0, at 12 bits and at 8
     well (capturing 0x49E1 (partial-is 1 0xFFF)) ∷
     ill (capturing 0x49E1 (partial-is 1 0x1000)) ∷
@@ -731,7 +806,10 @@ judged =
     ill (registered (with-cr 0x1000)) ∷
     ill (registered (with-cr 0x300)) ∷
     ill (registered (with-cwstrt 0x4000)) ∷
+    ill (registered (with-cwstrt 0x20000000)) ∷
     ill (registered (with-cwsize 0x4000)) ∷
+    well (registered (with-cwsize 0x20000000)) ∷
+    ill (registered (with-cwsize 0x40000000)) ∷
     -- RIS or IER above 31
     well (registered (with-ris 31)) ∷
     ill (registered (with-ris 32)) ∷
@@ -772,6 +850,24 @@ judged =
 unfoldable pub snapshot-rate : ℕ
 snapshot-rate = run (write fresh CR 0x49E3 .device) [] 0 (edges (blank ∷ 1 ∷ [])) .device .core .capture .rate
 
+-- And it stays what it was, here 1. No calls from reset lead to this device.
+unfoldable pub kept-rate : ℕ
+kept-rate = run (rated 0x49E3 1) [] 0 (edges (blank ∷ 1 ∷ [])) .device .core .capture .rate
+
+-- Rule 2: only a sample that goes on leaves whether each sync blanks; disabling leaves it, and so does a write of CR with ENABLE 0.
+unfoldable pub syncs-while-disabled : Syncs
+syncs-while-disabled =
+    let d = write (run (write fresh CR 0x48E1 .device) [] 0 (edge blank) .device) CR 0x08E0 .device in
+    run (write d CR 0x00E0 .device) [] 0 (edge 1) .device .core .capture .syncs
+
+-- Rule 6: a line that has begun without a pixel runs on where HSYNC did not blank. No calls from reset lead to this device.
+unfoldable pub same-line : Frame
+same-line = run (capturing 0x48E1 (λ s. partial-is 0 0 (frame-is true 1 0 s))) [] 0 (edge 4) .device .core .capture .frame
+
+-- Rule 6: kept are lines and pixels of an untaken frame too.
+unfoldable pub untaken-frame : Frame
+untaken-frame = run (write fresh CR 0x49E1 .device) [] 0 (edges (blank ∷ 1 ∷ blank ∷ 2 ∷ 3 ∷ [])) .device .core .capture .frame
+
 -- Rule 6: lines and pixels are 0 when a frame starts, here at an edge without a pixel.
 unfoldable pub frame-started : Frame
 frame-started = run (write fresh CR 0x48E3 .device) [] 0 (edges (blank ∷ line-gap ∷ [])) .device .core .capture .frame
@@ -786,10 +882,19 @@ cases = starred ++ mistakes ++ by-rule
 
 pub bench-sheet : (map made cases ≡ map (λ c. c .sheet) cases)
     × (map map-of every ≡ by-register)
+    × (map fields (0xFFFFFFFF ∷ 0xD4C3B2A1 ∷ []) ≡
+    (3 ∷ 3 ∷ 0x1FFF ∷ 0x3FFF ∷ 0x3FFF ∷ 0x3FFF ∷ 0xFF ∷ 0xFF ∷ 0xFF ∷ 0xFF ∷ 0xFF ∷ 0xFF ∷ 0xFF ∷ 0xFF ∷ 0x3FFF ∷ []) ∷
+    (2 ∷ 0 ∷ 0x14C3 ∷ 0x32A1 ∷ 0x14C3 ∷ 0x32A1 ∷ 0xA1 ∷ 0xB2 ∷ 0xC3 ∷ 0xD4 ∷ 0xA1 ∷ 0xB2 ∷ 0xC3 ∷ 0xD4 ∷ 0x32A1 ∷ []) ∷
+    [])
     × (map played by-call ≡ map (λ l. map (λ e. e .said) (l .entries)) by-call)
     × (map (λ j. malformed (j .device)) judged ≡ map (λ j. j .malformed) judged)
+    × (map (word-at (1 ∷ 2 ∷ 3 ∷ 4 ∷ 5 ∷ 6 ∷ 7 ∷ [])) (2 ∷ 5 ∷ 7 ∷ []) ≡ 0x06050403 ∷ 0x0706 ∷ 0 ∷ [])
     × (snapshot-rate ≡ 0)
+    × (kept-rate ≡ 1)
+    × (syncs-while-disabled ≡ record { hsync = true; vsync = true })
+    × (same-line ≡ Open true (record { lines = 1; pixels = 1 }))
+    × (untaken-frame ≡ Open false (record { lines = 1; pixels = 2 }))
     × (frame-started ≡ Open true (record { lines = 0; pixels = 0 }))
     × (syncs-at-reset ≡ record { hsync = false; vsync = false })
-unfolding word-at written words made told told-by played starred mistakes by-rule by-call judged snapshot-rate frame-started syncs-at-reset every-rule
-bench-sheet = (refl, refl, refl, refl, refl, refl, refl)
+unfolding word-at written words made told told-by played starred mistakes by-rule by-call judged snapshot-rate kept-rate syncs-while-disabled same-line untaken-frame frame-started syncs-at-reset every-rule
+bench-sheet = (refl, refl, refl, refl, refl, refl, refl, refl, refl, refl, refl, refl, refl)

@@ -206,6 +206,15 @@ coded-frames =
     sends FE 0x18 3 ++ sends (FS ++ 1 ∷ 2 ∷ 3 ∷ 4 ∷ FE) 0x18 3 ++ sends (FS ++ 5 ∷ 6 ∷ 7 ∷ []) 0x18 0 ++ byte 8 (completed 0x08070605) ++
     sends FE 0x19 7) ∷
     mode-2 4 0x4131 (sends (FS ++ FE) 0x19 3 ++ a-write CR 0x4130 ▸ done ∷ a-write CR 0x4131 ▸ done ∷ a-write ICR 0x1F ▸ done ∷ sends (FS ++ FE) 0x19 3) ∷
+    -- FSC 0xFF: frames count, not lines
+    mode-1 4 0x4131
+    (sends (code 0xB6 ++ code 0x80 ++ 1 ∷ 2 ∷ code 0x9D ++ code 0x80 ++ 3 ∷ []) 0x10 0 ++ byte 4 (completed 0x04030201) ++ sends (code 0xB6) 0x19 7 ++
+    a-write ICR 0x1F ▸ done ∷ sends (code 0x80 ++ 5 ∷ 6 ∷ 7 ∷ 8 ∷ code 0xB6) 0x18 7 ++ the-counts ▸ counts 72 1 0 0 1 0 ∷
+    sends (code 0x80 ++ 5 ∷ 6 ∷ 7 ∷ []) 0x18 4 ++ byte 8 (completed 0x08070605)) ∷
+    mode-1 4 0x4030
+    (sends (code 0xB6) 0 3 ++ sends (code 0x80) 0 0 ++ sends (1 ∷ 2 ∷ 3 ∷ 4 ∷ code 0x9D) 0 1 ++ sends (code 0xAB) 0 3 ++ the-counts ▸ counts 40 0 0 0 0 0 ∷ []) ∷
+    mode-2 4 0x4031 (sends (FS ++ 1 ∷ 2 ∷ 3 ∷ 4 ∷ []) 0 4 ++ a-write CR 0x4030 ▸ done ∷ sends LS 4 3 ++ the-counts ▸ counts 24 1 0 1 0 0 ∷ []) ∷
+    mode-2 4 0x4031 (sends (0xFF ∷ 0 ∷ 0 ∷ []) 0 3 ++ a-write ICR 0x1F ▸ done ∷ a-write IER 0 ▸ done ∷ sends (0xA1 ∷ []) 0 0) ∷
     -- a snapshot: the flags rise before its CAPTURE is cleared, and the next frame raises none
     mode-2 4 0x4033
     (sends (FS ++ 1 ∷ []) 0 0 ++ sends FE 0x19 3 ++ a-read CR ▸ reads 0x4032 ∷ a-write ICR 0x1F ▸ done ∷
@@ -436,6 +445,10 @@ code-registers =
     (sends (FS ++ FE) 0x19 3 ++ a-write CR 0xF0 ▸ done ∷ a-write CR 0x40E1 ▸ done ∷ a-write ICR 0x1F ▸ done ∷
     a-run 0 (edges (0x41 ∷ 0x42 ∷ [])) ▸ done ∷ a-read RIS ▸ reads 0 ∷ a-read SR ▸ reads 0 ∷ the-counts ▸ counts 20 0 0 0 0 0 ∷
     a-run 0 (edge blank) ▸ done ∷ a-read RIS ▸ reads 0x18 ∷ []) ∷
+    -- CR written between frames with CAPTURE 0 again leaves the rate counter, so that the next frame counted is the second
+    mode-2 4 0x4131
+    (sends (FS ++ FE) 0x19 3 ++ a-write CR 0x4130 ▸ done ∷ a-write CR 0x4130 ▸ done ∷ a-write ICR 0x1F ▸ done ∷ sends FS 0 0 ++
+    a-write CR 0x4131 ▸ done ∷ sends FE 0x18 3 ++ sends (FS ++ 1 ∷ 2 ∷ 3 ∷ 4 ∷ FE) 0x18 3) ∷
     []
 
 -- "ESS with another EDM or with JPEG" is excluded; ESCR and ESUR may hold anything. Bytes that wait and what the codes said last are free, with a frame open,

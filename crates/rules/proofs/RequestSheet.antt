@@ -67,6 +67,11 @@ early-frame =
     (leads-to (edges (blank ∷ 1 ∷ line-gap ∷ 2 ∷ [])) 0x19 ++
     a-write ICR 1 ▸ done ∷
     leads-to (edge blank) 0x18) ∷
+    -- also where the line has more pixels than the window lines
+    cropped 0 0 0x48E5
+    (leads-to (edges (blank ∷ 1 ∷ 2 ∷ line-gap ∷ [])) 0x19 ++
+    a-write ICR 1 ▸ done ∷
+    leads-to (edges (line-gap ∷ frame-gap ∷ [])) 0x18) ∷
     -- "at frame end if that line never ended": the window is below the picture, lines 2 and 3 of two lines
     cropped 0x20000 0x10000 0x48E5
     (leads-to (edges (blank ∷ 1 ∷ line-gap ∷ 2 ∷ line-gap ∷ [])) 0x18 ++

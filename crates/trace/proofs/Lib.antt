@@ -1,1 +1,2 @@
 pub mod ManySamples
+pub mod DecodingSheet

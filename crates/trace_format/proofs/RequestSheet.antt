@@ -3,10 +3,10 @@ use mathlib.Core.Bool.{cond}
 use mathlib.Core.List.{List, [], _∷_, _++_, map}
 use mathlib.Core.Path.{_≡_, refl}
 use Prim.Native.Nat.{ℕ}
-use lib.ListN.{length, replicate}
+use lib.ListN.{length, drop, replicate}
 use Rattle.trace_format.specs.Format.{little, version-for, count-size, header-length, write-bytes, sample-bytes, header, encode}
-use Rattle.trace_format.specs.Reading.{number, field, same, sample-count, whole, form-of, form-refusal, item, Item, a-write, a-sample, the-end, refused, checked, write-at, sample-at}
-use Rattle.samples.specs.Samples.{bad-sample}
+use Rattle.trace_format.specs.Reading.{number, field, same, sample-count, whole, form-of, form-refusal, item, Item, a-write, a-sample, the-end, refused, checked, write-at, sample-at, past, found, Read, read, samples-from, file-refusal}
+use Rattle.samples.specs.Samples.{bad-sample, any-bad}
 
 -- A file's first bytes: mark, version, number of writes; then bytes.
 abbrev FGT : List ℕ → List ℕ
@@ -14,9 +14,10 @@ FGT bytes = 0x46 ∷ 0x47 ∷ 0x54 ∷ bytes
 
 unfoldable pub refused-files : List (List ℕ)
 refused-files =
-    -- below eight bytes 13, whatever they are: none, three wrong ones, seven
+    -- below eight bytes 13, whatever they are: none, three wrong ones, seven with a wrong mark, seven
     [] ∷
     (1 ∷ 2 ∷ 3 ∷ []) ∷
+    (1 ∷ 2 ∷ 3 ∷ 1 ∷ 0 ∷ 0 ∷ 0 ∷ []) ∷
     FGT (2 ∷ 0 ∷ 0 ∷ 0 ∷ []) ∷
     -- the mark before the version
     (0x46 ∷ 0x47 ∷ 0x55 ∷ 3 ∷ 0 ∷ 0 ∷ 0 ∷ 0 ∷ []) ∷
@@ -53,10 +54,24 @@ headers =
 unfoldable pub version-2 : List ℕ
 version-2 = FGT (2 ∷ 0 ∷ 1 ∷ 1 ∷ 0x40 ∷ 0 ∷ 0 ∷ 0 ∷ 0xE3 ∷ 0x4C ∷ 0 ∷ 0 ∷ 0xAB ∷ 0x0A ∷ 1 ∷ [])
 
+-- Document 01, "Its form checks are 13, 10, 11, 12, 13 on opening and 7 at a sample, its place staying": one write and two samples, of which the first has bit 18; and the same with a wrong mark.
+unfoldable pub bad-file : List ℕ
+bad-file = FGT (1 ∷ 0 ∷ 1 ∷ 2 ∷ 0 ∷ 0x0C ∷ 1 ∷ 2 ∷ 3 ∷ 4 ∷ 5 ∷ 0 ∷ 4 ∷ 0xFF ∷ 0xFF ∷ 3 ∷ [])
+
+unfoldable pub no-file : List ℕ
+no-file = 0x46 ∷ 0x47 ∷ 0x55 ∷ drop 3 bad-file
+
+abbrev finds : Item → ℕ → Read
+finds i place = record { item = i; place = place }
+
 pub request-sheet :
-    (map form-refusal refused-files ≡ 13 ∷ 13 ∷ 13 ∷ 10 ∷ 11 ∷ 11 ∷ 11 ∷ 13 ∷ 13 ∷ 12 ∷ 12 ∷ 12 ∷ 13 ∷ 13 ∷ 13 ∷ 13 ∷ 13 ∷ [])
+    (map form-refusal refused-files ≡ 13 ∷ 13 ∷ 13 ∷ 13 ∷ 10 ∷ 11 ∷ 11 ∷ 11 ∷ 13 ∷ 13 ∷ 12 ∷ 12 ∷ 12 ∷ 13 ∷ 13 ∷ 13 ∷ 13 ∷ 13 ∷ [])
     × (map (header 1) (16384 ∷ 16385 ∷ 4294967295 ∷ []) ≡ headers)
     × (map (item version-2) (0 ∷ 1 ∷ []) ≡ a-write (record { offset = 0; value = 0x4CE3 }) ∷ a-sample 0x10AAB ∷ [])
     × (whole (header 255 4294967295) ≡ 12884903170)
-unfolding refused-files headers version-2 form-of same field number version-for count-size little header item checked bad-sample write-at sample-at
-request-sheet = (refl, refl, refl, refl)
+    × (map (read bad-file) (0 ∷ 1 ∷ 2 ∷ 3 ∷ 4 ∷ []) ≡
+    finds (a-write (record { offset = 0x0C; value = 0x04030201 })) 1 ∷ finds (refused 7) 1 ∷ finds (a-sample 0x3FFFF) 3 ∷ finds the-end 3 ∷ finds the-end 4 ∷ [])
+    × (map (read no-file) (0 ∷ 1 ∷ 3 ∷ []) ≡ finds (refused 10) 0 ∷ finds (refused 10) 1 ∷ finds (refused 10) 3 ∷ [])
+    × (map file-refusal (FGT (1 ∷ 0 ∷ 0 ∷ 1 ∷ 0 ∷ 0xFF ∷ 0xFF ∷ 3 ∷ []) ∷ bad-file ∷ no-file ∷ []) ≡ 0 ∷ 7 ∷ 10 ∷ [])
+unfolding refused-files headers version-2 bad-file no-file form-of same field number version-for count-size little header item checked bad-sample any-bad write-at sample-at past found read samples-from file-refusal
+request-sheet = (refl, refl, refl, refl, refl, refl, refl)

@@ -1,2 +1,3 @@
 pub mod Filling
 pub mod RoundTrips
+pub mod WriterSheet
