@@ -19,7 +19,7 @@ use Rattle.board_rules.specs.HandingBack as handing-rules
 use Rattle.trace_format.specs.declared.Write.{Write}
 use Rattle.trace_format.specs.Reading as reading
 use Rattle.trace_writer.specs.Writing as writing
-use Rattle.files.specs.File as file-rules
+use Rattle.file_rules.specs.File as file-rules
 use Rattle.device_words.specs.Image.{flag}
 use Rattle.board_words.specs.BoardImage.{image-of, encodes, board-of}
 

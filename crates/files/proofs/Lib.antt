@@ -1,5 +1,2 @@
 pub mod Items
-pub mod Neither
 pub mod Samples
-pub mod SettingUp
-pub mod WholeOrder

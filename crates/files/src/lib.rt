@@ -13,7 +13,7 @@ ghost use Rattle.rules.proofs.WellFormed.{WellFormed};
 ghost use Rattle.trace_format.specs.Reading as reading;
 ghost use Rattle.sampling.specs.Answers as sample-answers;
 ghost use Rattle.device.specs.Answers as device-answers;
-ghost use Rattle.files.specs.File as file-rules;
+ghost use Rattle.file_rules.specs.File as file-rules;
 use device::Changed;
 use refusals::Outcome;
 use refusals::Refusal;

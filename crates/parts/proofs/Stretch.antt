@@ -17,12 +17,12 @@ use Rattle.trace_format.specs.Reading.{field, version-of, sample-count, sample-
 use Rattle.trace.specs.Decoding.{samples-in, how-many}
 use Rattle.trace.proofs.ManySamples.{samples-in-length}
 use Rattle.trace_format.proofs.Putting.{put-over}
-use Rattle.parts_rules.specs.Parts.{Taken, no-item, wants, take-byte, take-bytes}
+use Rattle.file_rules.specs.Parts.{Taken, no-item, wants, take-byte, take-bytes}
 use Rattle.parts.specs.Forward.{samples-left}
-use Rattle.parts_rules.proofs.Taking.{at, bytes-append, counts}
-use Rattle.parts_rules.proofs.Singles.{by-bool, singles, singles-run}
-use Rattle.parts_rules.proofs.Content.{Passes, some-samples}
-use Rattle.parts_rules.proofs.Header.{wants-within, passes-on}
+use Rattle.file_rules.proofs.Taking.{at, bytes-append, counts}
+use Rattle.file_rules.proofs.Singles.{by-bool, singles, singles-run}
+use Rattle.file_rules.proofs.Content.{Passes, some-samples}
+use Rattle.file_rules.proofs.Header.{wants-within, passes-on}
 
 pub positive : (n : ℕ) → (n ≡ 0 → ⊥) → 0 < n
 positive zero some = absurd (some refl)

@@ -2,7 +2,7 @@
 use mathlib.Core.List.{List}
 use Prim.Native.Nat.{ℕ}
 use Rattle.refusals.specs.Table.{outcome}
-use Rattle.parts_rules.specs.Parts as parts-rules
+use Rattle.file_rules.specs.Parts as parts-rules
 use Rattle.parts.specs.declared.Parts.{Parts}
 
 abbrev pub state : Parts → parts-rules.State

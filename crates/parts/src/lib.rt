@@ -10,7 +10,7 @@ ghost use Rattle.rules.specs.State as state-rules;
 ghost use Rattle.trace_format.specs.Format as format;
 ghost use Rattle.trace_format.specs.Reading as reading;
 ghost use Rattle.device.specs.Answers as device-answers;
-ghost use Rattle.parts_rules.specs.Parts as parts-rules;
+ghost use Rattle.file_rules.specs.Parts as parts-rules;
 ghost use Rattle.parts.specs.Answers as parts-answers;
 ghost use Rattle.parts.specs.Forward as forward;
 use device::Changed;

@@ -1,7 +1,7 @@
 -- `files::run_content` meets its contract.
 use borrow.Author.Needs.{needs}
 use Rattle.refusals.proofs.Numbered.{never-zero}
-use Rattle.files.specs.File.{run-content}
+use Rattle.file_rules.specs.File.{run-content}
 use Rattle.files.proofs.run_content.Statement.{statement}
 use Rattle.files.proofs.run_content.Tie as tie
 

@@ -1,6 +1,6 @@
 -- `files::run_file` meets its contract.
 use borrow.Author.Needs.{needs}
-use Rattle.files.proofs.SettingUp.{fresh-ready}
+use Rattle.file_rules.proofs.SettingUp.{fresh-ready}
 use Rattle.files.proofs.run_file.Statement.{statement}
 use Rattle.files.proofs.run_file.Tie as tie
 

@@ -4,8 +4,8 @@ use mathlib.Core.Path.{sym, ap, _∙_}
 use Rattle.refusals.proofs.Numbered.{never-zero}
 use Rattle.refusals.specs.Table.{outcome}
 use Rattle.rules.specs.Answers.{Changed}
-use Rattle.files.specs.File.{run-file-of}
-use Rattle.files.proofs.SettingUp.{made-ready}
+use Rattle.file_rules.specs.File.{run-file-of}
+use Rattle.file_rules.proofs.SettingUp.{made-ready}
 use Rattle.files.proofs.run_file_of.Statement.{statement}
 use Rattle.files.proofs.run_file_of.Tie as tie
 

@@ -3,7 +3,7 @@ use borrow.Author.Needs.{needs}
 use mathlib.Core.Path.{sym, ap, _∙_}
 use Rattle.refusals.proofs.Numbered.{never-zero}
 use Rattle.refusals.specs.Table.{outcome}
-use Rattle.files.specs.File.{run-on}
+use Rattle.file_rules.specs.File.{run-on}
 use Rattle.files.proofs.run_on.Statement.{statement}
 use Rattle.files.proofs.run_on.Tie as tie
 

@@ -6,7 +6,7 @@ use Rattle.refusals.specs.Table.{outcome}
 use Rattle.sampling.proofs.AcceptedRuns.{tail-part, put-tail}
 use Rattle.rules.proofs.WellFormed.{facts}
 use Rattle.rules.specs.Run.{Ran}
-use Rattle.files.specs.File.{samples-refusal, run-samples}
+use Rattle.file_rules.specs.File.{samples-refusal, run-samples}
 use Rattle.files.proofs.Samples.{accepted-file, refused-file}
 use Rattle.files.proofs.run_samples.Statement.{statement}
 use Rattle.files.proofs.run_samples.Tie as tie

@@ -7,7 +7,7 @@ use Rattle.refusals.proofs.Numbered.{never-zero}
 use Rattle.trace_reader.specs.Answers.{item}
 use Rattle.trace_format.specs.Reading as reading
 use Rattle.files.proofs.Items.{a-write}
-use Rattle.files.proofs.SettingUp.{Setting, starting, setting-keeps, setting-on, setting-refused, setting-end}
+use Rattle.file_rules.proofs.SettingUp.{Setting, starting, setting-keeps, setting-on, setting-refused, setting-end}
 use Rattle.files.proofs.set_up.Statement.{statement}
 use Rattle.files.proofs.set_up.Tie as tie
 

@@ -4,9 +4,9 @@ use native.Mathlib.Omega.{arith}
 use borrow.Author.Needs.{needs}
 use Prim.Native.Nat.{_-_, _<_, _^_}
 use lib.ListN.{length, take}
-use Rattle.parts_rules.specs.Parts.{Taken}
+use Rattle.file_rules.specs.Parts.{Taken}
 use Rattle.parts.specs.Answers.{taken}
-use Rattle.parts_rules.proofs.Growing.{grows, wanted-wants}
+use Rattle.file_rules.proofs.Growing.{grows, wanted-wants}
 use Rattle.parts.proofs.Stretch.{positive}
 use Rattle.frame_printer.proofs.main.Statement.{statement}
 use Rattle.frame_printer.proofs.main.Tie as tie

@@ -1,6 +1,6 @@
 -- `parts::after_sample` meets its contract.
 use borrow.Author.Needs.{needs}
-use Rattle.parts_rules.specs.Parts.{after-sample}
+use Rattle.file_rules.specs.Parts.{after-sample}
 use Rattle.parts.proofs.after_sample.Statement.{statement}
 use Rattle.parts.proofs.after_sample.Tie as tie
 

@@ -1,6 +1,6 @@
 -- `parts::after_write` meets its contract.
 use borrow.Author.Needs.{needs}
-use Rattle.parts_rules.specs.Parts.{after-write}
+use Rattle.file_rules.specs.Parts.{after-write}
 use Rattle.parts.proofs.after_write.Statement.{statement}
 use Rattle.parts.proofs.after_write.Tie as tie
 

@@ -3,8 +3,8 @@ use mathlib.Core.Path.{sym, _∙_}
 use native.Mathlib.Omega.{arith}
 use borrow.Author.Needs.{needs}
 use Rattle.parts.proofs.Stretch.{none-taken, counted}
-use Rattle.parts_rules.proofs.Taking.{unwanted}
-use Rattle.parts_rules.proofs.Header.{wants-within}
+use Rattle.file_rules.proofs.Taking.{unwanted}
+use Rattle.file_rules.proofs.Header.{wants-within}
 use Rattle.parts.proofs.count_bytes.Statement.{statement}
 use Rattle.parts.proofs.count_bytes.Tie as tie
 

@@ -2,7 +2,7 @@
 use borrow.Author.Tests.{le-ltb, lt-ltb}
 use borrow.Author.Needs.{needs}
 use Rattle.refusals.proofs.Numbered.{never-zero}
-use Rattle.parts_rules.specs.Parts.{ended, end-refusal}
+use Rattle.file_rules.specs.Parts.{ended, end-refusal}
 use Rattle.parts.proofs.end.Statement.{statement}
 use Rattle.parts.proofs.end.Tie as tie
 

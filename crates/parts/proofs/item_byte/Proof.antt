@@ -2,7 +2,7 @@
 use borrow.Author.Tests.{le-ltb, lt-ltb}
 use native.Mathlib.Omega.{arith}
 use borrow.Author.Needs.{needs}
-use Rattle.parts_rules.specs.Parts.{item-byte}
+use Rattle.file_rules.specs.Parts.{item-byte}
 use Rattle.parts.proofs.item_byte.Statement.{statement}
 use Rattle.parts.proofs.item_byte.Tie as tie
 

@@ -1,6 +1,6 @@
 -- `parts::open` meets its contract.
 use mathlib.Core.Path.{refl}
-use Rattle.parts_rules.specs.Parts.{opened}
+use Rattle.file_rules.specs.Parts.{opened}
 use Rattle.parts.proofs.open.Statement.{statement}
 use Rattle.parts.proofs.open.Tie as tie
 

@@ -1,7 +1,7 @@
 -- `parts::sample_byte` meets its contract.
 use borrow.Author.Tests.{eq-eqb, ne-eqb}
 use borrow.Author.Needs.{needs}
-use Rattle.parts_rules.specs.Parts.{sample-byte}
+use Rattle.file_rules.specs.Parts.{sample-byte}
 use Rattle.parts.proofs.sample_byte.Statement.{statement}
 use Rattle.parts.proofs.sample_byte.Tie as tie
 

@@ -3,7 +3,7 @@ use mathlib.Core.Path.{_≡_, refl, _∙_}
 use native.Mathlib.Omega.{arith}
 use Prim.Native.Nat.{_-_}
 use lib.ListN.{length, drop}
-use Rattle.parts_rules.specs.Parts.{take-bytes}
+use Rattle.file_rules.specs.Parts.{take-bytes}
 use Rattle.parts.specs.Answers.{taken}
 use denote.Ref.{now}
 use Rattle.parts.proofs.Stretch.{taken-on, taken-all}

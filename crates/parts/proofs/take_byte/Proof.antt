@@ -3,8 +3,8 @@ use mathlib.Core.Path.{sym, _∙_}
 use borrow.Author.Tests.{le-ltb, lt-ltb}
 use native.Mathlib.Omega.{arith}
 use borrow.Author.Needs.{needs}
-use Rattle.parts_rules.specs.Parts.{take-byte}
-use Rattle.parts_rules.proofs.Header.{header-ten, wants-within}
+use Rattle.file_rules.specs.Parts.{take-byte}
+use Rattle.file_rules.proofs.Header.{header-ten, wants-within}
 use Rattle.parts.proofs.take_byte.Statement.{statement}
 use Rattle.parts.proofs.take_byte.Tie as tie
 

@@ -12,7 +12,7 @@ use Rattle.refusals.specs.Table.{outcome}
 use Rattle.refusals.proofs.Numbered.{never-zero}
 use Rattle.parts.specs.Answers.{taken}
 use Rattle.parts.proofs.Stretch.{none-taken, few, front-room, stretch-taken, positive}
-use Rattle.parts_rules.proofs.Singles.{run-refused}
+use Rattle.file_rules.proofs.Singles.{run-refused}
 use Rattle.parts.proofs.take_samples.Statement.{statement}
 use Rattle.parts.proofs.take_samples.Tie as tie
 

@@ -3,7 +3,7 @@ use mathlib.Core.Path.{sym, ap, _∙_}
 use native.Mathlib.Omega.{arith}
 use borrow.Author.Needs.{needs}
 use mathlib.Core.List.{List, []}
-use Rattle.parts_rules.specs.Parts.{Taken, take-byte, take-bytes}
+use Rattle.file_rules.specs.Parts.{Taken, take-byte, take-bytes}
 use denote.Ref.{now}
 use lib.ListN.{take, drop, getD}
 use Prim.Native.Nat.{ℕ}

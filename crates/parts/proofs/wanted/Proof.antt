@@ -3,8 +3,8 @@ use mathlib.Core.Path.{sym, _∙_}
 use borrow.Author.Tests.{le-ltb, lt-ltb}
 use native.Mathlib.Omega.{arith}
 use borrow.Author.Needs.{needs}
-use Rattle.parts_rules.specs.Parts.{wanted}
-use Rattle.parts_rules.proofs.Header.{wants-within}
+use Rattle.file_rules.specs.Parts.{wanted}
+use Rattle.file_rules.proofs.Header.{wants-within}
 use Rattle.parts.proofs.wanted.Statement.{statement}
 use Rattle.parts.proofs.wanted.Tie as tie
 

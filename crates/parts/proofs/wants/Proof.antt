@@ -1,7 +1,7 @@
 -- `parts::wants` meets its contract.
 use borrow.Author.Needs.{needs}
 use Rattle.refusals.proofs.Numbered.{never-zero}
-use Rattle.parts_rules.specs.Parts.{wants}
+use Rattle.file_rules.specs.Parts.{wants}
 use Rattle.parts.proofs.wants.Statement.{statement}
 use Rattle.parts.proofs.wants.Tie as tie
 

@@ -1,7 +1,7 @@
 -- `parts::write_byte` meets its contract.
 use borrow.Author.Tests.{eq-eqb, ne-eqb}
 use borrow.Author.Needs.{needs}
-use Rattle.parts_rules.specs.Parts.{write-byte}
+use Rattle.file_rules.specs.Parts.{write-byte}
 use Rattle.parts.proofs.write_byte.Statement.{statement}
 use Rattle.parts.proofs.write_byte.Tie as tie
 

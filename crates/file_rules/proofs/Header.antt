@@ -16,10 +16,10 @@ use Rattle.trace_format.specs.Format.{version-for, count-size, header-length, m
 use Rattle.trace_format.specs.Reading.{field, same, version-of, write-count, sample-count, whole, header-refusal, form-of}
 use Rattle.trace_format.proofs.Fields.{field-suc, mark-bytes}
 use Rattle.trace_format.proofs.Form.{count-sizes, form-after-header}
-use Rattle.parts_rules.specs.Parts.{Taken, no-item, opened, wants, take-byte, take-bytes}
-use Rattle.parts_rules.proofs.Taking.{at, bytes-append, header-step, unwanted}
-use Rattle.parts_rules.proofs.Singles.{by-bool}
-use Rattle.parts_rules.proofs.Content.{Passes}
+use Rattle.file_rules.specs.Parts.{Taken, no-item, opened, wants, take-byte, take-bytes}
+use Rattle.file_rules.proofs.Taking.{at, bytes-append, header-step, unwanted}
+use Rattle.file_rules.proofs.Singles.{by-bool}
+use Rattle.file_rules.proofs.Content.{Passes}
 
 -- A header that passes, and has the numbers of a file.
 pub record Passed (h f : List ℕ) : Type 0 where

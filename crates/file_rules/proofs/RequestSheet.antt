@@ -8,7 +8,7 @@ use Rattle.rules.specs.Run.{RunResult}
 use Rattle.rules.proofs.EveryRule.{every-rule}
 use Rattle.trace_format.specs.Format.{version-for, count-size}
 use Rattle.trace_format.specs.Reading.{number, field, same, header-refusal, form-of}
-use Rattle.parts_rules.specs.Parts.{opened, wants, after-write, after-sample, write-byte, sample-byte, item-byte, take-byte, take-bytes, take-parts, end-refusal, ended, run-parts, wanted}
+use Rattle.file_rules.specs.Parts.{State, opened, wants, after-write, after-sample, write-byte, sample-byte, item-byte, take-byte, take-bytes, take-parts, end-refusal, ended, run-parts, wanted}
 
 -- The paper's file of 37 bytes (document 01, "The frame printer"), but for its last sample.
 unfoldable pub file-T : List ℕ
@@ -69,14 +69,19 @@ inputs =
     ((1 ∷ 2 ∷ 3 ∷ []) ∷ (1 ∷ 0 ∷ 0 ∷ 0 ∷ 0 ∷ []) ∷ []) ∷
     []
 
--- What is wanted after some bytes: to the eighth, whatever came before; to the tenth in version 2; to one behind the length; nothing behind a refused header.
+-- The state after some bytes; and what is wanted then: to the eighth, whatever came before; to the tenth in version 2; to one behind the length; nothing behind a refused header.
+abbrev begun : List ℕ → State
+begun bytes = take-bytes 0 (record { state = opened fresh; memory = [] }) bytes .state
+
 abbrev more : List ℕ → ℕ
-more bytes = let s = take-bytes 0 (record { state = opened fresh; memory = [] }) bytes .state in wanted (s .head) (s .taken)
+more bytes = let s = begun bytes in wanted (s .head) (s .taken)
 
 pub request-sheet :
     (map (by 0) inputs ≡ accepted ∷ accepted ∷ accepted ∷ with-word 13 ∷ with-word 13 ∷ with-word 7 ∷ with-word 13 ∷ nothing 2 ∷ nothing 13 ∷ nothing 13 ∷ nothing 13 ∷ nothing 10 ∷ [])
     -- 9 stands after the writes and before the samples, and is found without samples too
     × (map (by 9) (((file-T ++ 0x00 ∷ 0xC0 ∷ 0x04 ∷ []) ∷ []) ∷ (no-register (0x00 ∷ 0x00 ∷ 0x04 ∷ []) ∷ []) ∷ ((0x46 ∷ 0x47 ∷ 0x54 ∷ 1 ∷ 0 ∷ 0 ∷ 0 ∷ 0 ∷ []) ∷ []) ∷ []) ≡ nothing 9 ∷ nothing 2 ∷ nothing 9 ∷ [])
-    × (map more ([] ∷ (1 ∷ 2 ∷ 3 ∷ []) ∷ (1 ∷ 2 ∷ 3 ∷ 1 ∷ 0 ∷ 0 ∷ 0 ∷ 0 ∷ []) ∷ (0x46 ∷ 0x47 ∷ 0x54 ∷ 2 ∷ 0 ∷ 0 ∷ 0 ∷ 0 ∷ []) ∷ take 8 file-T ∷ []) ≡ 8 ∷ 5 ∷ 0 ∷ 2 ∷ 30 ∷ [])
+    × (map more ([] ∷ (1 ∷ 2 ∷ 3 ∷ []) ∷ (1 ∷ 2 ∷ 3 ∷ 1 ∷ 0 ∷ 0 ∷ 0 ∷ 0 ∷ []) ∷ (0x46 ∷ 0x47 ∷ 0x54 ∷ 2 ∷ 0 ∷ 0 ∷ 0 ∷ []) ∷ (0x46 ∷ 0x47 ∷ 0x54 ∷ 2 ∷ 0 ∷ 0 ∷ 0 ∷ 0 ∷ []) ∷ (0x46 ∷ 0x47 ∷ 0x54 ∷ 2 ∷ 0 ∷ 0 ∷ 0 ∷ 0 ∷ 0 ∷ []) ∷ take 8 file-T ∷ (file-T ++ 0x00 ∷ 0xC0 ∷ 0x01 ∷ []) ∷ []) ≡ 8 ∷ 5 ∷ 0 ∷ 1 ∷ 2 ∷ 1 ∷ 30 ∷ 1 ∷ [])
+    -- of three bytes too many one is counted
+    × (begun (file-T ++ 0x00 ∷ 0xC0 ∷ 0x01 ∷ 0x00 ∷ 0x00 ∷ 0x00 ∷ []) .taken ≡ 38)
 unfolding every-rule inputs file-T opened wants after-write after-sample write-byte sample-byte item-byte take-byte take-bytes take-parts end-refusal ended run-parts wanted header-refusal form-of same field number version-for count-size
-request-sheet = (refl, refl, refl)
+request-sheet = (refl, refl, refl, refl)

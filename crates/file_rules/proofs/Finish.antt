@@ -18,14 +18,14 @@ use Rattle.trace_format.specs.Format.{header-length, write-size, sample-size, w
 use Rattle.trace_format.specs.Reading.{version-of, write-count, sample-count, sample-start, whole, header-refusal, form-of, writes-of, samples-from}
 use Rattle.trace.specs.Decoding.{samples-in}
 use Rattle.trace.proofs.ManySamples.{samples-here}
-use Rattle.files.specs.File.{set-up}
+use Rattle.file_rules.specs.File.{set-up}
 use Rattle.trace_format.proofs.Form.{form-after-header}
-use Rattle.parts_rules.specs.Parts.{State, Taken, no-item, after-write, write-byte, take-byte, take-bytes}
-use Rattle.parts_rules.proofs.Taking.{at, bytes-append, write-step, count-step, counts, over}
-use Rattle.parts_rules.proofs.Items.{part-sample}
-use Rattle.parts_rules.proofs.Singles.{by-bool, singles}
-use Rattle.parts_rules.proofs.Content.{all-writes, all-samples}
-use Rattle.parts_rules.proofs.Header.{Passed}
+use Rattle.file_rules.specs.Parts.{State, Taken, no-item, after-write, write-byte, take-byte, take-bytes}
+use Rattle.file_rules.proofs.Taking.{at, bytes-append, write-step, count-step, counts, over}
+use Rattle.file_rules.proofs.Items.{part-sample}
+use Rattle.file_rules.proofs.Singles.{by-bool, singles}
+use Rattle.file_rules.proofs.Content.{all-writes, all-samples}
+use Rattle.file_rules.proofs.Header.{Passed}
 
 -- All bytes of the file have come, or one too many: the head is the header's, and the form checks answer as for the file.
 pub record Finished (f : List ℕ) (d : Device) (x : ℕ) (m : List ℕ) (t : Taken) : Type 0 where

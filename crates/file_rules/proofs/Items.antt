@@ -10,8 +10,8 @@ use Rattle.rules.specs.RegisterCalls.{write}
 use Rattle.rules.specs.Run.{run}
 use Rattle.trace_format.specs.Format.{header-length, write-size, sample-size, write-start}
 use Rattle.trace_format.specs.Reading.{field, version-of, write-count, sample-count, sample-start, whole, header-refusal}
-use Rattle.parts_rules.specs.Parts.{Taken, no-item, after-write, after-sample, write-byte, sample-byte, take-byte, take-bytes}
-use Rattle.parts_rules.proofs.Taking.{at, write-step, sample-step}
+use Rattle.file_rules.specs.Parts.{Taken, no-item, after-write, after-sample, write-byte, sample-byte, take-byte, take-bytes}
+use Rattle.file_rules.proofs.Taking.{at, write-step, sample-step}
 
 -- Five bytes, as a list.
 pub five-of : (P : List ℕ → Type 0) (l : List ℕ) → length l ≡ 5 → ((a b c d e : ℕ) → P (a ∷ b ∷ c ∷ d ∷ e ∷ [])) → P l

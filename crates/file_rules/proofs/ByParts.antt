@@ -19,16 +19,16 @@ use Rattle.rules.specs.Run.{RunResult, run, run-refusal, steps}
 use Rattle.trace_format.specs.Format.{header-length, sample-size}
 use Rattle.trace_format.specs.Reading.{version-of, sample-count, sample-start, whole, header-refusal, form-of, form-refusal, writes-of, samples-from, samples-of}
 use Rattle.trace_format.proofs.Rewritten.{length-samples-from}
-use Rattle.files.specs.File.{set-up, run-content, run-on, run-file, run-file-of}
-use Rattle.files.specs.WholeOrder.{or-fresh, whole-order}
-use Rattle.files.proofs.SettingUp.{made-ready, fresh-ready}
-use Rattle.files.proofs.WholeOrder.{after-writes, count-fits, with-whole-order}
+use Rattle.file_rules.specs.File.{set-up, run-content, run-on, run-file, run-file-of}
+use Rattle.file_rules.specs.WholeOrder.{or-fresh, whole-order}
+use Rattle.file_rules.proofs.SettingUp.{made-ready, fresh-ready}
+use Rattle.file_rules.proofs.WholeOrder.{after-writes, count-fits, with-whole-order}
 use Rattle.trace_format.proofs.Form.{form-after-header}
-use Rattle.parts_rules.specs.Parts.{State, Taken, opened, end-refusal, ended, good-from, samples-there, left-by, run-parts, joined}
-use Rattle.parts_rules.proofs.Taking.{parts-joined}
-use Rattle.parts_rules.proofs.Singles.{by-bool, singles, good, singles-run, run-none, not-bad}
-use Rattle.parts_rules.proofs.Header.{Passed, Stopped, all-bytes, by-header}
-use Rattle.parts_rules.proofs.Finish.{behind, cut-writes, write-refused, count-there, ran, samples-taken}
+use Rattle.file_rules.specs.Parts.{State, Taken, opened, end-refusal, ended, good-from, samples-there, left-by, run-parts, joined}
+use Rattle.file_rules.proofs.Taking.{parts-joined}
+use Rattle.file_rules.proofs.Singles.{by-bool, singles, good, singles-run, run-none, not-bad}
+use Rattle.file_rules.proofs.Header.{Passed, Stopped, all-bytes, by-header}
+use Rattle.file_rules.proofs.Finish.{behind, cut-writes, write-refused, count-there, ran, samples-taken}
 
 -- The good samples of a file, from the list of them.
 good-samples : (f : List ℕ) (n k : ℕ) → good-from f k n ≡ good (samples-from f k n)

@@ -9,8 +9,8 @@ use lib.ListN.{length}
 use Rattle.bits.proofs.Booleans.{either}
 use Rattle.trace_format.specs.Format.{header-length, write-size, sample-size}
 use Rattle.trace_format.specs.Reading.{version-of, sample-start, whole}
-use Rattle.parts_rules.specs.Parts.{State, Taken, wants, wanted, after-write, after-sample, write-byte, sample-byte, item-byte, take-byte, take-bytes}
-use Rattle.parts_rules.proofs.Singles.{by-bool}
+use Rattle.file_rules.specs.Parts.{State, Taken, wants, wanted, after-write, after-sample, write-byte, sample-byte, item-byte, take-byte, take-bytes}
+use Rattle.file_rules.proofs.Singles.{by-bool}
 
 write-counts : (s : State) (b : ℕ) → write-byte s b .taken ≡ s .taken + 1
 unfolding write-byte after-write

@@ -23,7 +23,7 @@ use Rattle.laws.proofs.KeepsWrites.{write-keeps}
 use Rattle.trace_format.specs.declared.Write.{Write}
 use Rattle.trace_format.specs.Reading as reading
 use Rattle.trace_format.proofs.Walk.{write-place}
-use Rattle.files.specs.File.{set-up}
+use Rattle.file_rules.specs.File.{set-up}
 
 found-samples : (d : Device) (r : Found) (v : ℕ) → write-at d r v .core .output .counts .samples ≡ d .core .output .counts .samples
 unfolding write-at discard holding with-held count-discarded with-counts

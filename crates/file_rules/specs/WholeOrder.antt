@@ -7,7 +7,7 @@ use lib.Dec.{eqb}
 use Rattle.rules.specs.declared.Device.{Device}
 use Rattle.rules.specs.Run.{RunResult, run}
 use Rattle.trace_format.specs.Reading.{writes-of, samples-of}
-use Rattle.files.specs.File.{set-up, refused}
+use Rattle.file_rules.specs.File.{set-up, refused}
 
 -- A refused run leaves what a refused file does.
 abbrev pub or-fresh : RunResult → RunResult

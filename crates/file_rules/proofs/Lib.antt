@@ -1,3 +1,6 @@
+pub mod Neither
+pub mod SettingUp
+pub mod WholeOrder
 pub mod Taking
 pub mod Items
 pub mod Singles
@@ -5,6 +8,7 @@ pub mod Content
 pub mod Header
 pub mod Finish
 pub mod ByParts
-pub mod Neither
+pub mod PartsNeither
 pub mod Growing
 pub mod RequestSheet
+pub mod FilesSheet

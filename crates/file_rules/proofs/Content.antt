@@ -17,11 +17,11 @@ use Rattle.rules.specs.Run.{RunResult, run}
 use Rattle.trace_format.specs.Format.{header-length, write-size, sample-size, write-start}
 use Rattle.trace_format.specs.Reading.{field, version-of, write-count, sample-count, sample-start, header-refusal, write-at, writes-from}
 use Rattle.trace.specs.Decoding.{samples-in}
-use Rattle.files.specs.File.{set-up}
-use Rattle.parts_rules.specs.Parts.{Taken, no-item, take-bytes}
-use Rattle.parts_rules.proofs.Taking.{at, bytes-append, counts}
-use Rattle.parts_rules.proofs.Items.{one-write, one-sample}
-use Rattle.parts_rules.proofs.Singles.{by-bool, singles}
+use Rattle.file_rules.specs.File.{set-up}
+use Rattle.file_rules.specs.Parts.{Taken, no-item, take-bytes}
+use Rattle.file_rules.proofs.Taking.{at, bytes-append, counts}
+use Rattle.file_rules.proofs.Items.{one-write, one-sample}
+use Rattle.file_rules.proofs.Singles.{by-bool, singles}
 
 -- A header that passes, whatever follows it.
 abbrev pub Passes : List ℕ → Type 0

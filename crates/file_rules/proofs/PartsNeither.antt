@@ -18,12 +18,12 @@ use Rattle.laws.proofs.KeepsWrites.{write-keeps}
 use Rattle.trace_format.specs.Format.{header-length, write-size, sample-size}
 use Rattle.trace_format.specs.Reading.{field, version-of, sample-start, whole}
 use Rattle.trace_format.proofs.Fields.{field-below, count-below}
-use Rattle.files.proofs.Neither.{Neither, write-neither, run-neither}
-use Rattle.files.proofs.SettingUp.{write-samples}
-use Rattle.files.proofs.WholeOrder.{never-answered as file-answers-neither}
-use Rattle.parts_rules.specs.Parts.{State, Taken, opened, wants, after-write, after-sample, write-byte, sample-byte, item-byte, take-byte, take-bytes, take-parts, run-parts, joined}
-use Rattle.parts_rules.proofs.Taking.{parts-joined}
-use Rattle.parts_rules.proofs.ByParts.{by-parts}
+use Rattle.file_rules.proofs.Neither.{Neither, write-neither, run-neither}
+use Rattle.file_rules.proofs.SettingUp.{write-samples}
+use Rattle.file_rules.proofs.WholeOrder.{never-answered as file-answers-neither}
+use Rattle.file_rules.specs.Parts.{State, Taken, opened, wants, after-write, after-sample, write-byte, sample-byte, item-byte, take-byte, take-bytes, take-parts, run-parts, joined}
+use Rattle.file_rules.proofs.Taking.{parts-joined}
+use Rattle.file_rules.proofs.ByParts.{by-parts}
 
 abbrev AreBytes : List ℕ → Type 0
 AreBytes l = (i : ℕ) → getD l i 0 < 256

@@ -11,7 +11,7 @@ use borrow.Author.Tests.{lt-ltb, le-ltb, le-leb, lt-leb}
 use Rattle.rules.specs.declared.Device.{Device}
 use Rattle.trace_format.specs.Format.{header-length}
 use Rattle.trace_format.specs.Reading.{version-of, sample-start, whole, header-refusal}
-use Rattle.parts_rules.specs.Parts.{Taken, wants, write-byte, sample-byte, item-byte, take-byte, take-bytes, take-parts, joined}
+use Rattle.file_rules.specs.Parts.{Taken, wants, write-byte, sample-byte, item-byte, take-byte, take-bytes, take-parts, joined}
 
 pub bytes-append : (start : ℕ) (t : Taken) (xs ys : List ℕ) → take-bytes start t (xs ++ ys) ≡ take-bytes start (take-bytes start t xs) ys
 unfolding take-bytes

@@ -14,7 +14,7 @@ use Rattle.rules.specs.Run.{RunResult, run}
 use Rattle.samples.specs.Samples.{bad-sample}
 use Rattle.trace_format.specs.Format.{header-length, write-size, sample-size}
 use Rattle.trace_format.specs.Reading.{field, version-of, sample-count, sample-start, sample-at, whole, header-refusal, form-of, writes-of}
-use Rattle.files.specs.File.{set-up}
+use Rattle.file_rules.specs.File.{set-up}
 
 -- The header as far as it has come, how many bytes have come, the bytes of the write or sample that has begun, the device, and the number of the first refused write
 -- or sample, 0 where none was.

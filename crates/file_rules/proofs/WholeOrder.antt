@@ -21,10 +21,10 @@ use Rattle.trace_format.specs.Format.{write-start}
 use Rattle.trace_format.specs.Reading.{form-refusal, version-of, write-count, sample-count, write-at, writes-from, writes-of, samples-of}
 use Rattle.trace_format.proofs.Fields.{field-below, count-below}
 use Rattle.trace_format.proofs.Rewritten.{length-samples-of}
-use Rattle.files.specs.File.{set-up, refused, samples-refusal, run-samples, run-content, run-on, run-file, run-file-of}
-use Rattle.files.specs.WholeOrder.{or-fresh, whole-order}
-use Rattle.files.proofs.Neither.{Neither, write-neither, run-neither, form-neither}
-use Rattle.files.proofs.SettingUp.{write-samples, made-ready, fresh-ready}
+use Rattle.file_rules.specs.File.{set-up, refused, samples-refusal, run-samples, run-content, run-on, run-file, run-file-of}
+use Rattle.file_rules.specs.WholeOrder.{or-fresh, whole-order}
+use Rattle.file_rules.proofs.Neither.{Neither, write-neither, run-neither, form-neither}
+use Rattle.file_rules.proofs.SettingUp.{write-samples, made-ready, fresh-ready}
 
 -- A run on such a device, of samples that fit: the tests for 1 and 8 find nothing.
 pub same-run : (d : Device) (m : List ℕ) (start : ℕ) (ws : List ℕ) → malformed d ≡ false → d .core .output .counts .samples + length ws ≤ 4294967295
