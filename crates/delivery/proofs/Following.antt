@@ -18,7 +18,7 @@ use Rattle.rules.specs.State.{device}
 use Rattle.rules.specs.Capture.{Captured, flagged, enabled}
 use Rattle.rules.specs.Sample.{capture-sample, next-capture}
 use Rattle.rules.specs.RegisterCalls.{placed}
-use Rattle.rules.specs.Run.{Packed, nothing, completed, Completed, after-word, full-word, without-word, complete, after-grant, Stepped, counted, step}
+use Rattle.rules.specs.Run.{Packed, nothing, completed, Completed, after-word, complete, after-grant, Stepped, counted, step}
 use Rattle.delivery.proofs.Inputs.{input}
 
 -- What a sample answers of its word where none is lost.
@@ -28,7 +28,7 @@ answered (some v) = completed v
 
 complete-fits : (o : Option ℕ) (c : Captured) (x : OutputState) → c .error ≡ false → ((v : ℕ) → o ≡ some v → x .output .held < x .output .depth)
     → complete o c x ≡ record { device = device (flagged c) (take-in o x); packed = answered o }
-unfolding complete full-word after-word without-word take-in
+unfolding complete after-word take-in
 complete-fits none c x quiet space = rw quiet
 complete-fits (some v) c x quiet space = let h : offer v x .fate ≡ Held = ap (λ (r : Offered). r .fate) (offer-held v x (space v refl)) in rw h
 

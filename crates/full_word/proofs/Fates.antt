@@ -1,5 +1,6 @@
 -- Rule 9 of a padded word, and of a word by codes, from that of a full one. The idea: by what became of the word. Assumes nothing.
 use mathlib.Core.Bool.{Bool, true, false}
+use mathlib.Core.Option.{some}
 use mathlib.Core.Path.{_≡_, refl}
 use Prim.Native.Nat.{ℕ}
 use native.Mathlib.Omega.{arith}
@@ -9,7 +10,7 @@ use Rattle.output.specs.Output.{OutputState, offer}
 use Rattle.rules.specs.declared.Capture.{Capture}
 use Rattle.rules.specs.State.{device, output-of, raise}
 use Rattle.rules.specs.Capture.{Captured, flagged}
-use Rattle.rules.specs.Run.{nothing, completed, lost, after-word, full-word}
+use Rattle.rules.specs.Run.{nothing, completed, lost, after-word, complete}
 use Rattle.full_word.specs.Answers.{with-word}
 
 -- Rule 9 of a padded word from that of a full one: FRAME rises where it is held.
@@ -38,6 +39,6 @@ unfolding after-word flagged
 after-word-coded Held v c x = refl
 after-word-coded Lost v c x = refl
 
-pub word-coded : {due : Bool} (v : ℕ) (c : Captured) (x : OutputState) → c .due ≡ due → full-word v (with-word v due (c .state)) x ≡ full-word v c x
-unfolding full-word
+pub word-coded : {due : Bool} (v : ℕ) (c : Captured) (x : OutputState) → c .due ≡ due → complete (some v) (with-word v due (c .state)) x ≡ complete (some v) c x
+unfolding complete
 word-coded v c x e = rw (← e) (after-word-coded (offer v x .fate) v c (offer v x .state))

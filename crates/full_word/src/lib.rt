@@ -1,6 +1,7 @@
 // Rule 9 of a sample: a full word is held, or there is an overrun; and the answers of rules 1 and 9 noted in lent places (`notes`). The slots are lent and the rest goes by value
 // (docs/SPEED.md). The functions are for the crates above, which call them on well-formed devices; each states its result as an equation with its definition.
 ghost use mathlib.Core.Bool.{true, false, cond};
+ghost use mathlib.Core.Option.{some};
 ghost use mathlib.Core.Path.{_≡_};
 ghost use Prim.Native.Nat.{_+_, _≤_, _<_, _^_};
 ghost use Rattle.output.specs.Answers.{left};
@@ -58,7 +59,7 @@ fn lose_frame(s: Capture) -> Capture
 fn full_word(v: u32, s: Capture, o: Output, slots: &mut [u32; SLOTS]) -> Completed
     requires { ⌜ Laid (left o (now slots)) ⌝ }
     requires { ⌜ (s .registers .ris ≤ 31) × (o .counts .completed + 1 < 2 ^ 32) × (o .counts .discarded + o .held + 1 < 2 ^ 32) ⌝ }
-    ensures { λ r. ⌜ word-answers.completed r (now (slots .exit)) ≡ run-rules.full-word v (word-answers.with-word v false s) (left o (now (slots .entry))) ⌝ }
+    ensures { λ r. ⌜ word-answers.completed r (now (slots .exit)) ≡ run-rules.complete (some v) (word-answers.with-word v false s) (left o (now (slots .entry))) ⌝ }
 {
     let s = apart(s);
     let offered = offer(v, o, slots);
@@ -110,7 +111,7 @@ pub fn complete(c: Captured, o: Output, slots: &mut [u32; SLOTS]) -> Completed
 pub fn padded_word(v: u32, s: Capture, o: Output, slots: &mut [u32; SLOTS]) -> Completed
     requires { ⌜ Laid (left o (now slots)) ⌝ }
     requires { ⌜ (s .registers .ris ≤ 31) × (o .counts .completed + 1 < 2 ^ 32) × (o .counts .discarded + o .held + 1 < 2 ^ 32) ⌝ }
-    ensures { λ r. ⌜ word-answers.completed r (now (slots .exit)) ≡ run-rules.full-word v (word-answers.with-word v true s) (left o (now (slots .entry))) ⌝ }
+    ensures { λ r. ⌜ word-answers.completed r (now (slots .exit)) ≡ run-rules.complete (some v) (word-answers.with-word v true s) (left o (now (slots .entry))) ⌝ }
 {
     let c = full_word(v, s, o, slots);
     let core = c.core;

@@ -23,7 +23,7 @@ use Rattle.rules.specs.CropWindow.{lines-to-window-end}
 use Rattle.rules.specs.State.{capture-of, output-of, raise, clear-capture, close-frame, with-cr, with-ris, with-registers, with-pins, with-syncs, with-frame, with-rate, with-partial}
 use Rattle.rules.specs.Capture.{Captured, no-word, flagged, working-edge, enabled, remember-pins, blanking, any-blanks, sync-flags, window-ended, hsync-after-window, frame-rises, frame-due, end-of, frame-closes, frame-pads, frame-end, next-rate, takes, open-frame, starts, start-of, frame-start, pixel-in, pixel-edge, either-word, at-edge}
 use Rattle.rules.specs.Sample.{edge, capture-sample}
-use Rattle.rules.specs.Run.{Completed, without-word, complete, after-grant, counted, step}
+use Rattle.rules.specs.Run.{Completed, complete, after-grant, counted, step}
 use Rattle.laws.specs.Padding.{padded-at}
 use Rattle.laws.specs.Before.{ends-before-W1, frame-end-before-W1, frame-end-before-W4, at-edge-by, capture-sample-by, step-by, capture-sample-before-W6, step-before-W6, step-before-W1, step-before-W4, stepped-by}
 use Rattle.laws.proofs.RegisterValues.{same-crop, same-jpeg, same-embedded, half-setup}
@@ -105,7 +105,7 @@ edge-before : (due : Bool) (s : Capture) (now : Syncs) (x : ℕ) (y : OutputStat
     let q = pixel-edge (frame-start (frame-closes (cond due (raise 0 s) s) now) now) now x in
     now-and-then (record { state = with-syncs now (p .state); word = either-word (frame-pads s now) (p .word); due = due; error = false }) y
     ≡ now-and-then (record { state = with-syncs now (q .state); word = q .word; due = false; error = false }) y
-unfolding either-word complete without-word flagged no-word pixel-edge frame-start with-syncs raise with-registers with-ris
+unfolding either-word complete flagged no-word pixel-edge frame-start with-syncs raise with-registers with-ris
 edge-before false s now x y is e = rw e
 edge-before true s now x y is e =
     rw (

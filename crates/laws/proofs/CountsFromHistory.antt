@@ -23,7 +23,7 @@ use Rattle.rules.specs.Capture.{Captured}
 use Rattle.rules.specs.declared.Device.{Device}
 use Rattle.rules.specs.State.{output-of, fresh-of, with-cr, with-ris, with-ier, with-cwstrt, with-cwsize, with-escr, with-esur, with-registers}
 use Rattle.rules.specs.RegisterCalls.{write-control, clear-flags, write-register, write-at, write-refusal, write, placed, rearmed, rearm}
-use Rattle.rules.specs.Run.{without-word, after-word, full-word, complete, after-grant, counted, step, steps, run-refusal, run, sample}
+use Rattle.rules.specs.Run.{after-word, complete, after-grant, counted, step, steps, run-refusal, run, sample}
 use Rattle.rules.specs.WellFormed.{malformed}
 use Rattle.laws.specs.Histories.{Call, a-write, a-rearming, a-placing, a-run, a-sample, after, after-all, reached, Event, sampled, disabled, samplings, accepted-samplings, samplings-of, disabling-of, events, events-of-all, history}
 use Rattle.laws.specs.Ledger.{Ledger, blank, sample-entry, landing-entry, word-entry, disabling-entry, error-entry, enter, enter-all, ledger, numbers}
@@ -45,8 +45,8 @@ unfolding Landed landing-entry grant no-landing
 grant-landed granted on x buffer = either {y = no-landing x buffer} (Landed x) (granted && on) (oldest-landed x (contents x) buffer) refl
 
 -- Rule 9.
-held-or-lost : (v : ℕ) (c : Captured) (x : OutputState) → let a = full-word v c x in word-entry (a .packed) (numbers (x .output)) ≡ numbers (a .device .core .output)
-unfolding full-word after-word offer word-entry holding with-held discard count-word count-discarded with-counts
+held-or-lost : (v : ℕ) (c : Captured) (x : OutputState) → let a = complete (some v) c x in word-entry (a .packed) (numbers (x .output)) ≡ numbers (a .device .core .output)
+unfolding complete after-word offer word-entry holding with-held discard count-word count-discarded with-counts
 held-or-lost v c x =
     either
     (λ (r : Offered). let a = after-word (r .fate) v c (r .state) in word-entry (a .packed) (numbers (x .output)) ≡ numbers (a .device .core .output))
@@ -61,9 +61,9 @@ emptied false x = refl
 
 complete-counted : (o : Option ℕ) (c : Captured) (x : OutputState) → (c .error ≡ true → o ≡ none)
     → error-entry (c .error) (word-entry (complete o c x .packed) (numbers (x .output))) ≡ numbers (complete o c x .device .core .output)
-unfolding complete without-word word-entry error-entry
+unfolding complete word-entry error-entry
 complete-counted none c x alone = emptied (c .error) x
-complete-counted (some v) c x alone = ap (λ rises. error-entry rises (word-entry (full-word v c x .packed) (numbers (x .output)))) (without-error (c .error) v alone) ∙ held-or-lost v c x
+complete-counted (some v) c x alone = ap (λ rises. error-entry rises (word-entry (complete (some v) c x .packed) (numbers (x .output)))) (without-error (c .error) v alone) ∙ held-or-lost v c x
   where
     without-error : (rises : Bool) (v : ℕ) → (rises ≡ true → some v ≡ none) → rises ≡ false
     without-error false v h = refl

@@ -4,7 +4,7 @@ use mathlib.Core.Bool.{Bool, true, false, cond, not, _&&_, _||_}
 use mathlib.Core.Path.{_≡_, refl, ap, _∙_}
 use Prim.Native.Nat.{ℕ, _+_, _≤_, _<_}
 use native.Mathlib.Omega.{arith}
-use lib.Dec.{eqb, ltb, leb}
+use lib.Dec.{ltb, leb}
 use Rattle.bits.proofs.Booleans.{or-false, and-zero, by-cond, either}
 use Rattle.registers.specs.Control.{capture, crop, edm}
 use Rattle.registers.specs.Window.{vst, vline}
@@ -24,7 +24,7 @@ use Rattle.laws.proofs.WindowLines.{over, over-blanks, over-pixel, over
 abbrev pub Told-in : Frame → ℕ → Bool → Bool → FrameHistory → Type 0
 Told-in Closed n cropped blanked h = h .due ≤ 1
 Told-in (Open taken f) n cropped blanked h =
-    (ltb n (f .lines) || (eqb (f .lines) n && blanked) ≡ h .ended) × (h .due ≡ cond (taken && (cropped && h .ended)) 1 0)
+    (over n (f .lines) blanked ≡ h .ended) × (h .due ≡ cond (taken && (cropped && h .ended)) 1 0)
 
 abbrev pub Told : Capture → FrameHistory → Type 0
 Told s h = Told-in (s .frame) (lines-to-window-end (s .registers)) (crop (s .registers .cr)) (s .syncs .hsync) h

@@ -30,7 +30,7 @@ use Rattle.rules.specs.State.{not-blanking, with-waiting, with-cr, with-ris, wi
 use Rattle.rules.specs.Capture.{Captured, no-word, flagged, working-edge, enabled, remember-pins, blanking, any-blanks, vsync-flag, line-flag, sync-flags, window-ended, hsync-after-window, frame-rises, frame-due, end-of, frame-closes, frame-end, starts, open-frame, start-of, frame-start, next-pixel, captured, pack, pixel, pixel-in, pixel-edge, at-edge}
 use Rattle.rules.specs.Codes.{coded-syncs, arrived, byte-in, taken-out, frame-opens, line-opens, closes, errs, at-code, at-byte}
 use Rattle.rules.specs.Sample.{byte-of, edge, capture-sample}
-use Rattle.rules.specs.Run.{lose-frame, after-word, full-word, complete, after-grant, step}
+use Rattle.rules.specs.Run.{lose-frame, after-word, complete, after-grant, step}
 use Rattle.laws.specs.FrameHistory.{byte-due, due-at, is-lost}
 use Rattle.laws.proofs.RegisterValues.{raised-other, raised-up}
 use Rattle.laws.proofs.FrameEdges.{with-flags, sync-flags-flagged}
@@ -168,7 +168,7 @@ after-word-flag Lost v c x = rw (and-zero (c .due), or-unit (flag (c .state))) (
 
 complete-flag : (o : Option ℕ) (c : Captured) (x : OutputState)
     → let r = complete o c x in flag (r .device .core .capture) ≡ flag (c .state) || (c .due && not (is-lost (r .packed)))
-unfolding complete full-word is-lost
+unfolding complete is-lost
 complete-flag none c x = rw (and-unit (c .due)) (flagged-flag c)
 complete-flag (some v) c x = after-word-flag (offer v x .fate) v c (offer v x .state)
 

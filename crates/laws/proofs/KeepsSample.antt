@@ -21,7 +21,7 @@ use Rattle.rules.specs.declared.Device.{Device}
 use Rattle.rules.specs.State.{device, capture-of, output-of, with-cr, with-ris, with-registers, with-pins, with-frame, with-partial, raise, clear-capture, close-frame}
 use Rattle.rules.specs.Capture.{Captured, flagged, remember-pins}
 use Rattle.rules.specs.Sample.{capture-sample, next-capture}
-use Rattle.rules.specs.Run.{lose-frame, after-word, full-word, without-word, complete, after-grant, counted, step}
+use Rattle.rules.specs.Run.{lose-frame, after-word, complete, after-grant, counted, step}
 use Rattle.bits.proofs.Booleans.{by-cond, either}
 use Rattle.rules.proofs.WellFormed.{CaptureOk, WellFormed}
 use Rattle.laws.proofs.RegisterValues.{lowered-half, half-enable}
@@ -38,8 +38,8 @@ lose-frame-ok {n} {s} h =
 
 -- Rule 9, with a word more to be counted.
 full-word-ok : (v : ℕ) (c : Captured) (x : OutputState) → x .output .counts .completed < x .output .counts .samples
-    → enable (flagged c .registers .cr) ≡ true → CaptureOk (x .output .counts .samples) (c .state) → OutputOk true x → WellFormed (full-word v c x .device)
-unfolding full-word offer after-word holding with-held discard count-word count-discarded with-counts
+    → enable (flagged c .registers .cr) ≡ true → CaptureOk (x .output .counts .samples) (c .state) → OutputOk true x → WellFormed (complete (some v) c x .device)
+unfolding complete offer after-word holding with-held discard count-word count-discarded with-counts
 full-word-ok v c x more on h q =
     by-cond (λ (r : Offered). WellFormed (after-word (r .fate) v c (r .state) .device)) (ltb (x .output .held) (x .output .depth)) _ _
     (λ t. record { capture = flagged-kept c .ok _ h; output = rw on (held-ok q more v (ltb-true (x .output .held) (x .output .depth) t)) })
@@ -48,7 +48,7 @@ full-word-ok v c x more on h q =
 complete-ok : (o : Option ℕ) (c : Captured) (x : OutputState) → x .output .counts .completed < x .output .counts .samples
     → ((v : ℕ) → o ≡ some v → enable (flagged c .registers .cr) ≡ true)
     → CaptureOk (x .output .counts .samples) (c .state) → OutputOk (enable (flagged c .registers .cr)) x → WellFormed (complete o c x .device)
-unfolding complete without-word discard holding with-held count-discarded with-counts
+unfolding complete discard holding with-held count-discarded with-counts
 complete-ok none c x more on h q =
     either (λ (y : OutputState). WellFormed (device (flagged c) y)) (c .error)
     (record { capture = flagged-kept c .ok _ h; output = discard-ok q 0 (x .output) (q .depth) (q .completed) (q .place) (omega (arith, q .equation)) })
@@ -75,7 +75,7 @@ step-keeps d buffer w h =
 pub by-word : (P : Device → Type 0) (o : Option ℕ) (c : Captured) (x : OutputState) → P (device (flagged c) x) → (c .error ≡ true → P (device (flagged c) (discard 0 x)))
     → ((v : ℕ) → P (device (flagged c) (offer v x .state)))
     → ((v : ℕ) → P (device (lose-frame (c .state)) (discard 1 (offer v x .state)))) → P (complete o c x .device)
-unfolding complete full-word after-word without-word
+unfolding complete after-word
 by-word P none c x nothing emptied held lost = by-cond (λ (y : OutputState). P (device (flagged c) y)) (c .error) _ _ emptied (λ e. nothing)
 by-word P (some v) c x nothing emptied held lost = go (offer v x .fate)
   where

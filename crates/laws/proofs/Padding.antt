@@ -4,24 +4,19 @@ use mathlib.Core.Bool.{Bool, true, false, _&&_}
 use mathlib.Core.Option.{Option, none, some}
 use mathlib.Core.Path.{_≡_, refl, sym, _∙_}
 use Prim.Native.Nat.{ℕ, zero, suc, _+_, _-_, _*_, _%_, _^_, _<_}
-use native.Mathlib.Nat.{zero-mod, zero-mul, add-zero}
 use native.Mathlib.Omega.{arith}
 use lib.Dec.{ltb}
 use borrow.Author.Tests.{lt-ltb, le-ltb}
 use Rattle.bits.proofs.Booleans.{by-cond}
 use Rattle.registers.specs.Control.{jpeg, edm}
-use Rattle.packing.specs.Packing.{per-word, kept, joined}
+use Rattle.packing.specs.Packing.{per-word, zero-filled}
+use Rattle.packing.proofs.Zeros.{zero-joins, zero-filled-bits}
 use Rattle.rules.specs.declared.Scan.{Scan}
 use Rattle.rules.specs.declared.Frame.the-variants.{Open}
 use Rattle.rules.specs.declared.Capture.{Capture}
 use Rattle.rules.specs.State.{with-partial}
 use Rattle.rules.specs.Capture.{no-word, padded, packed-bits, pack, either-word}
 use Rattle.laws.specs.Padding.{filled}
-
--- A zero datum leaves the bits.
-zero-joins : (e count bits : ℕ) → joined e count bits 0 ≡ bits
-unfolding joined kept
-zero-joins e count bits = rw (zero-mod, zero-mul, add-zero)
 
 -- As many as the word lacks make it full.
 fills : (n : ℕ) (s : Capture) → s .partial .count + suc n ≡ per-word (edm (s .registers .cr)) → filled (suc n) s ≡ some (s .partial .bits)
@@ -36,7 +31,7 @@ padded-with-zeros taken f s v short =
     let q = per-word (edm (s .registers .cr)) in
     let p = s .partial .count in
     by-cond (λ o. o ≡ some v → filled (q - p) s ≡ some v) (taken && jpeg (s .registers .cr) && ltb 0 p) _ _
-    (λ t is. lacks (q - p) (omega arith) ∙ is)
+    (λ t is. lacks (q - p) (omega arith) ∙ rw (zero-filled-bits (edm (s .registers .cr)) p (s .partial .bits)) at is)
     (λ t is. let z : _≡_ {A = ℕ} 0 1 = cc in absurd (omega arith))
   where
     lacks : (n : ℕ) → (s .partial .count + n ≡ per-word (edm (s .registers .cr))) → filled n s ≡ some (s .partial .bits)

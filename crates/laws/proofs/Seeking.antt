@@ -28,7 +28,7 @@ use Rattle.rules.specs.State.{device, output-of, is-open, not-blanking, no-part
 use Rattle.rules.specs.Capture.{Captured, no-word, flagged, working-edge, enabled, remember-pins}
 use Rattle.rules.specs.Codes.{seeks, arrived, byte-in, taken-out, frame-opens, sought, at-code, at-byte, frame-ended}
 use Rattle.rules.specs.Sample.{byte-of, edge, capture-sample}
-use Rattle.rules.specs.Run.{nothing, lost, lose-frame, after-word, full-word, without-word, complete, after-grant, counted, step, steps}
+use Rattle.rules.specs.Run.{nothing, lost, lose-frame, after-word, complete, after-grant, counted, step, steps}
 use Rattle.rules.specs.RegisterCalls.{enabling, disabling, switch-enable, capture-rises, switch-capture, write-control}
 use Rattle.laws.specs.Seeking.{counts, found-by, found-at, none-found, Emptied, Runs-in, Runs}
 use Rattle.laws.proofs.Errors.{no-word-in-error, fallen-in-error}
@@ -124,7 +124,7 @@ sample-searched s w coded seeking = rw coded (go (working-edge s w && enabled s)
 
 -- The whole sample, without a word.
 quiet-complete : (o : Option ℕ) (c : Captured) (x : OutputState) → o ≡ none → c .due ≡ false
-    → let r = complete o c x in (r .device .core .capture ≡ c .state) × (r .packed ≡ nothing) × (output-of (r .device) ≡ without-word c x)
+    → let r = complete o c x in (r .device .core .capture ≡ c .state) × (r .packed ≡ nothing) × (output-of (r .device) ≡ cond (c .error) (discard 0 x) x)
 unfolding complete flagged
 quiet-complete none c x e quiet = (rw quiet, refl, refl)
 quiet-complete (some v) c x e quiet = let z : _≡_ {A = ℕ} 0 1 = cc in absurd (omega arith)
@@ -160,7 +160,7 @@ no-flag-until-found d b (w ∷ ws) coded seeking unfound =
 
 -- ERR.
 pub error-seeks : (d : Device) (b : List ℕ) (w : ℕ) → capture-sample (d .core .capture) w .error ≡ true → Emptied (step d b w .device)
-unfolding step after-grant without-word discard holding with-held count-discarded with-counts
+unfolding step after-grant complete discard holding with-held count-discarded with-counts
 error-seeks d b w rises =
     let s = d .core .capture in
     let c = capture-sample s w in
@@ -200,7 +200,7 @@ unfolding lose-frame close-frame with-partial with-frame clear-capture raise wit
 lost-frame s runs = (refl, refl, either (λ (t : Capture). not (t .syncs .vsync) ≡ true) (snapshot (s .registers .cr)) (rw runs) (rw runs))
 
 complete-lost : (o : Option ℕ) (c : Captured) (x : OutputState) → ((v : ℕ) → o ≡ some v → c .state .syncs .vsync ≡ false) → complete o c x .packed ≡ lost → Emptied (complete o c x .device)
-unfolding complete full-word after-word discard holding with-held
+unfolding complete after-word discard holding with-held
 complete-lost none c x runs = λ is. let z : _≡_ {A = ℕ} 0 1 = cc in absurd (omega arith)
 complete-lost (some v) c x runs = go (offer v x .fate) (offer v x .state)
   where

@@ -30,7 +30,7 @@ use Rattle.rules.specs.State.{device, capture-of, output-of, is-open, not-blank
 use Rattle.rules.specs.Capture.{Captured, no-word, flagged, working-edge, enabled, remember-pins, vsync-flag, line-flag, sync-flags, window-ended, hsync-after-window, frame-rises, frame-due, end-of, frame-closes, next-rate, takes, in-window, captured, packed-bits, pack, either-word}
 use Rattle.rules.specs.Codes.{in-line, coded-syncs, seeks, arrived, before, datum, each-datum, byte-in, taken-out, frame-opens, line-opens, closes, errs, line-start, obeyed, sought, at-code, at-byte, line-ended, frame-ended}
 use Rattle.rules.specs.Sample.{byte-of, edge, capture-sample}
-use Rattle.rules.specs.Run.{lose-frame, Completed, after-word, full-word, without-word, complete, after-grant, Stepped, counted, step}
+use Rattle.rules.specs.Run.{lose-frame, Completed, after-word, complete, after-grant, Stepped, counted, step}
 use Rattle.laws.specs.Before.{stepped-by}
 use Rattle.laws.specs.SyncPins.{without-levels, unleveled, stepped-unleveled, SameButSyncs, AllSameButSyncs}
 use Rattle.laws.proofs.RegisterValues.{same-embedded, half-setup}
@@ -176,7 +176,7 @@ module _ (p : Pins) where
   after-word-pins Lost v c x = rw (lose-frame-pins (c .state))
 
   complete-pins : (o : Option ℕ) (c : Captured) (x : OutputState) → complete o (repinned p c) x ≡ completed-pins (complete o c x)
-  unfolding complete full-word without-word completed-pins
+  unfolding complete completed-pins
   complete-pins none c x = rw (flagged-pins c)
   complete-pins (some v) c x = after-word-pins (offer v x .fate) v c (offer v x .state)
 

@@ -131,7 +131,7 @@ due-padded : (f : Frame) (s : Capture) (now : Syncs) (v : ℕ) → jpeg (s .regi
 unfolding padded frame-due frame-rises
 due-padded Closed s now v alone blanks e = let z : _≡_ {A = ℕ} 0 1 = cc in absurd (omega arith)
 due-padded (Open taken f) s now v alone blanks e =
-    let (taking, compressed) = all-true taken (jpeg (s .registers .cr)) (ltb 0 (s .partial .count)) (s .partial .bits) v e in
+    let (taking, compressed) = all-true taken (jpeg (s .registers .cr)) (ltb 0 (s .partial .count)) _ v e in
     rw (taking, uncropped (jpeg (s .registers .cr)) (crop (s .registers .cr)) alone compressed, blanks)
 
 pads-at-vsync : (vsync : Bool) (o : Option ℕ) (v : ℕ) → cond vsync o none ≡ some v → (vsync ≡ true) × (o ≡ some v)

@@ -6,7 +6,7 @@ use Prim.Native.Nat.{ℕ, _+_, _<_}
 use native.Mathlib.Decide.{decLt}
 use native.Mathlib.Omega.{arith}
 use lib.Dec.{eqb, ltb, leb}
-use borrow.Author.Tests.{lt-ltb, le-ltb, le-leb, lt-leb, eq-eqb, ne-eqb, eqb-true}
+use borrow.Author.Tests.{lt-ltb, le-ltb, le-leb, lt-leb, eqb-true}
 use Rattle.bits.proofs.Booleans.{or-false, or-true, or-unit, and-zero, by-cond}
 use Rattle.rules.specs.declared.Scan.{Scan}
 use Rattle.rules.specs.declared.Capture.{Capture}
@@ -14,41 +14,27 @@ use Rattle.rules.specs.Capture.{line-begins, next-pixel}
 
 -- The line has ended, by the lines up to the window's last, the lines begun, and whether HSYNC blanked last. Once begun it ends where HSYNC blanks.
 abbrev pub over : ℕ → ℕ → Bool → Bool
-over n lines blanked = ltb n lines || (eqb lines n && blanked)
-
-same-lines : (n lines : ℕ) → eqb lines n ≡ leb n lines && not (ltb n lines)
-same-lines n lines = go (decLt n lines) (decLt lines n)
-  where
-    go : Dec (n < lines) → Dec (lines < n) → eqb lines n ≡ leb n lines && not (ltb n lines)
-    go (yes more) fewer = rw (ne-eqb lines n (omega arith), lt-ltb n lines more) (sym (and-zero (leb n lines)))
-    go (no more) (yes fewer) = rw (ne-eqb lines n (omega arith), lt-leb n lines fewer)
-    go (no more) (no fewer) = rw (eq-eqb lines n (omega arith), le-leb n lines (omega arith), le-ltb n lines (omega arith))
+over n lines blanked = leb n lines && (ltb n lines || blanked)
 
 pub over-blanks : (n lines : ℕ) (blanked : Bool) → over n lines true ≡ over n lines blanked || (leb n lines && true)
-over-blanks n lines blanked = rw (same-lines n lines) (go (ltb n lines) (leb n lines) blanked)
+over-blanks n lines blanked = go (leb n lines) (ltb n lines) blanked
   where
-    go : (more begun blanked : Bool) → more || (begun && not more && true) ≡ more || (begun && not more && blanked) || (begun && true)
-    go true begun blanked = refl
-    go false true true = refl
-    go false true false = refl
-    go false false blanked = refl
+    go : (begun more blanked : Bool) → begun && (more || true) ≡ begun && (more || blanked) || (begun && true)
+    go false more blanked = refl
+    go true true blanked = refl
+    go true false true = refl
+    go true false false = refl
 
 -- A pixel begins the next line if HSYNC blanked last, or the first; a line that has ended never runs on.
 pub over-begins : (n lines : ℕ) → over n (lines + 1) false ≡ over n lines true || (leb n lines && false)
 over-begins n lines = go (decLt lines n)
   where
-    has-ended : (b : Bool) → b || (not b && true) || false ≡ true
-    has-ended true = refl
-    has-ended false = refl
-
     go : Dec (lines < n) → over n (lines + 1) false ≡ over n lines true || (leb n lines && false)
-    go (yes fewer) =
-        rw (le-ltb n (lines + 1) (omega arith), le-ltb n lines (omega arith), ne-eqb lines n (omega arith), and-zero (eqb (lines + 1) n), and-zero (leb n lines))
-    go (no fewer) = rw (lt-ltb n (lines + 1) (omega arith), same-lines n lines, le-leb n lines (omega arith)) (sym (has-ended (ltb n lines)))
+    go (yes fewer) = rw (le-ltb n (lines + 1) (omega arith), and-zero (leb n (lines + 1)), lt-leb n lines fewer)
+    go (no fewer) = rw (lt-ltb n (lines + 1) (omega arith), le-leb n (lines + 1) (omega arith), le-leb n lines (omega arith), or-true (ltb n lines))
 
 over-first : (n lines : ℕ) → 0 < n → lines ≡ 0 → over n (lines + 1) false ≡ over n lines false || (leb n lines && false)
-over-first n lines pos e =
-    rw (e, le-ltb n 1 (omega arith), le-ltb n 0 (omega arith), and-zero (eqb 1 n), and-zero (eqb 0 n), and-zero (leb n 0))
+over-first n lines pos e = rw (e, le-ltb n 1 (omega arith), and-zero (leb n 1), lt-leb n 0 pos)
 
 pub over-pixel : (n : ℕ) (s : Capture) (f : Scan) → 0 < n
     → over n (next-pixel s f .lines) false ≡ over n (f .lines) (s .syncs .hsync) || (leb n (f .lines) && false)
@@ -92,8 +78,8 @@ last-begun first more lines = go (decLt (first + more) lines)
 
 -- Before any line, and HSYNC blanking or not, it has not ended.
 pub over-none : (n : ℕ) (blanked : Bool) → 0 < n → over n 0 blanked ≡ false
-over-none n blanked pos = rw (le-ltb n 0 (omega arith), ne-eqb 0 n (omega arith))
+over-none n blanked pos = rw (lt-leb n 0 pos)
 
 -- Nor in the first line.
 pub over-first-line : (n : ℕ) → 0 < n → over n 1 false ≡ false
-over-first-line n pos = rw (le-ltb n 1 (omega arith), and-zero (eqb 1 n))
+over-first-line n pos = rw (le-ltb n 1 (omega arith), and-zero (leb n 1))

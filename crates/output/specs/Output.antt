@@ -99,10 +99,6 @@ unfoldable pub word-at : List ℕ → ℕ → ℕ
 word-at memory at =
     getD memory at 0 + 256 * getD memory (at + 1) 0 + 65536 * getD memory (at + 2) 0 + 16777216 * getD memory (at + 3) 0
 
--- The place at which a word that leaves the FIFO lands.
-abbrev pub place-of : ℕ → Output → ℕ
-place-of v o = o .place
-
 -- What rule 1 makes of output and frame buffer, and the byte of the buffer at which a word landed, if one did.
 pub record Granted : Type 0 where
   pub state : OutputState
@@ -112,15 +108,15 @@ pub record Granted : Type 0 where
 unfoldable pub no-landing : OutputState → List ℕ → Granted
 no-landing x buffer = record { state = x; buffer = buffer; landing = none }
 
--- Rule 1: the oldest held word, v, goes to memory, and the others, vs, stay.
+-- Rule 1: the oldest held word, v, goes to memory, at the next place, and the others, vs, stay.
 unfoldable pub lands : ℕ → List ℕ → Output → List ℕ → Granted
 lands v vs o buffer =
-    record { state = holding (o .held - 1) vs (count-landed o); buffer = stored (place-of v o) v buffer; landing = some (4 * place-of v o) }
+    record { state = holding (o .held - 1) vs (count-landed o); buffer = stored (o .place) v buffer; landing = some (4 * o .place) }
 
 -- Rule 1, by the held words: one is held, and there is room for it.
 unfoldable pub oldest-lands : List ℕ → OutputState → List ℕ → Granted
 oldest-lands [] x buffer = no-landing x buffer
-oldest-lands (v ∷ vs) x buffer = cond (room (place-of v (x .output)) buffer) (lands v vs (x .output) buffer) (no-landing x buffer)
+oldest-lands (v ∷ vs) x buffer = cond (room (x .output .place) buffer) (lands v vs (x .output) buffer) (no-landing x buffer)
 
 -- Rule 1 (004, 32.3.4): the bus grants and ENABLE is 1. CAPTURE plays no part.
 unfoldable pub grant : Bool → Bool → OutputState → List ℕ → Granted

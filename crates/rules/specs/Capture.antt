@@ -7,7 +7,7 @@ use Prim.Native.Nat.{ℕ, _+_, _-_, _%_}
 use lib.Dec.{eqb, ltb, leb}
 use Rattle.registers.specs.Control.{capture, snapshot, crop, jpeg, pckpol, hspol, vspol, fcrc, edm, enable}
 use Rattle.samples.specs.Samples.{hsync-pin, vsync-pin, clock-pin}
-use Rattle.packing.specs.Packing.{per-word, joined}
+use Rattle.packing.specs.Packing.{per-word, joined, zero-filled}
 use Rattle.rules.specs.declared.Syncs.{Syncs}
 use Rattle.rules.specs.declared.Scan.{Scan}
 use Rattle.rules.specs.declared.Frame.{Frame}
@@ -45,9 +45,12 @@ unfoldable pub remember-pins : ℕ → Capture → Capture
 remember-pins w s = with-pins (record { hsync = hsync-pin w; vsync = vsync-pin w; clock = clock-pin w }) s
 
 -- Rule 3 (004, 32.3.6, 32.5.1 VSPOL and HSPOL): a pin blanks when it equals its polarity bit.
+abbrev pub blanks : Bool → Bool → Bool
+blanks level polarity = Bool·beq level polarity
+
 unfoldable pub blanking : Capture → ℕ → Syncs
 blanking s w =
-    record { hsync = Bool·beq (hsync-pin w) (hspol (s .registers .cr)); vsync = Bool·beq (vsync-pin w) (vspol (s .registers .cr)) }
+    record { hsync = blanks (hsync-pin w) (hspol (s .registers .cr)); vsync = blanks (vsync-pin w) (vspol (s .registers .cr)) }
 
 -- A sync blanks.
 abbrev pub any-blanks : Syncs → Bool
@@ -63,15 +66,21 @@ line-flag s now = cond (not (s .syncs .hsync) && now .hsync) (raise 4 s) s
 unfoldable pub sync-flags : Capture → Syncs → Capture
 sync-flags s now = line-flag (vsync-flag s now) now
 
--- Rule 4, W1 (004, 32.5.3 FRAME_RIS): the crop window's last line, VST + VLINE, has ended: HSYNC has blanked at a working edge since it began. Either more lines have
--- begun, or just those up to it and HSYNC blanked at the last working edge; that this is the history of the frame is a law (crate laws, `window-ended-is-history`).
-unfoldable pub window-ended : Capture → Scan → Bool
-window-ended s f =
-    ltb (lines-to-window-end (s .registers)) (f .lines) || (eqb (f .lines) (lines-to-window-end (s .registers)) && s .syncs .hsync)
+-- Rule 4, W1: line VST + VLINE, the crop window's last, has begun; a later line has begun. Lines count from 0.
+abbrev pub reached-last-line : Capture → Scan → Bool
+reached-last-line s f = leb (lines-to-window-end (s .registers)) (f .lines)
 
--- Rule 4, W1: that line has begun, and HSYNC blanks.
+abbrev pub past-last-line : Capture → Scan → Bool
+past-last-line s f = ltb (lines-to-window-end (s .registers)) (f .lines)
+
+-- Rule 4, W1 (004, 32.5.3 FRAME_RIS): that line has ended: HSYNC has blanked at a working edge since it began. Then a later line has begun, or HSYNC blanked at the last
+-- working edge; that this is the history of the frame is a law (crate laws, `window-ended-is-history`).
+unfoldable pub window-ended : Capture → Scan → Bool
+window-ended s f = reached-last-line s f && (past-last-line s f || s .syncs .hsync)
+
+-- Rule 4, W1: "where HSYNC blanks after line VST + VLINE".
 unfoldable pub hsync-after-window : Capture → Scan → Syncs → Bool
-hsync-after-window s f now = leb (lines-to-window-end (s .registers)) (f .lines) && now .hsync
+hsync-after-window s f now = reached-last-line s f && now .hsync
 
 -- Rule 4 (004, 32.5.3 FRAME_RIS, 32.3.8): when FRAME rises in a taken frame. With CROP 0 at frame end, where VSYNC blanks. With CROP 1 (W1) where HSYNC blanks after the window's
 -- last line, once in a frame; at frame end if that line never ended.
@@ -84,11 +93,13 @@ unfoldable pub frame-due : Frame → Capture → Syncs → Bool
 frame-due Closed s now = false
 frame-due (Open taken f) s now = taken && frame-rises s f now
 
--- Rules 4 and 8, W4 (004, 32.3.9): with JPEG 1 the partial word of a taken frame that ends is filled with zero bytes. The bits above its data are 0, so that they are the word's as they
--- are (crate laws, `padded-with-zeros`). A word without data is none.
+-- Rules 4 and 8, W4 (004, 32.3.9): with JPEG 1 the partial word of a taken frame that ends is filled with zero bytes. A word without data is none.
 unfoldable pub padded : Frame → Capture → Option ℕ
 padded Closed s = none
-padded (Open taken f) s = cond (taken && jpeg (s .registers .cr) && ltb 0 (s .partial .count)) (some (s .partial .bits)) none
+padded (Open taken f) s =
+    cond (taken && jpeg (s .registers .cr) && ltb 0 (s .partial .count))
+    (some (zero-filled (edm (s .registers .cr)) (s .partial .count) (s .partial .bits)))
+    none
 
 -- Rule 4 (004, 32.3.7): of a taken frame that ends CAPTURE becomes 0 with CM 1; a partial word is dropped, with JPEG 1 once it has been answered.
 unfoldable pub end-of : Frame → Capture → Capture
@@ -102,7 +113,7 @@ frame-closes s now = cond (now .vsync) (end-of (s .frame) s) s
 unfoldable pub frame-pads : Capture → Syncs → Option ℕ
 frame-pads s now = cond (now .vsync) (padded (s .frame) s) none
 
--- Rule 4: the frame's end, the word that it pads, and FRAME.
+-- Rule 4: the frame's end, the word that it pads, and whether FRAME is due. FRAME itself rises behind rule 9 (W4, `flagged`).
 unfoldable pub frame-end : Capture → Syncs → Captured
 frame-end s now = record { state = frame-closes s now; word = frame-pads s now; due = frame-due (s .frame) s now; error = false }
 
@@ -180,9 +191,12 @@ unfoldable pub either-word : Option ℕ → Option ℕ → Option ℕ
 either-word none w = w
 either-word (some v) w = some v
 
--- Rules 3 to 8 at a working edge. Whether each sync blanks is remembered last: until then `syncs` is that of the last working edge.
+-- Rules 3 to 8 at a working edge, one after the other: flags (3), frame end (4), frame start (5), pixel (6 to 8). Whether each sync blanks is remembered last: until then
+-- `syncs` is that of the last working edge.
 unfoldable pub at-edge : Capture → Syncs → ℕ → Captured
 at-edge s now x =
-    let e = frame-end (sync-flags s now) now in
-    let p = pixel-edge (frame-start (e .state) now) now x in
-    record { state = with-syncs now (p .state); word = either-word (e .word) (p .word); due = e .due; error = false }
+    let flags = sync-flags s now in
+    let end = frame-end flags now in
+    let start = frame-start (end .state) now in
+    let carried = pixel-edge start now x in
+    record { state = with-syncs now (carried .state); word = either-word (end .word) (carried .word); due = end .due; error = false }

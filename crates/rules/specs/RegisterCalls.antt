@@ -1,5 +1,5 @@
 -- Register reads and writes, the interrupt line, making a device and re-arming (document 01, "Registers", "Writing CR" and "Refusal numbers").
-use mathlib.Core.Bool.{Bool, true, false, cond, not, _&&_, _||_, Bool·beq}
+use mathlib.Core.Bool.{Bool, true, false, cond, not, _&&_, _||_}
 use mathlib.Core.List.{List, [], _∷_}
 use Prim.Native.Nat.{ℕ, _+_, _-_}
 use lib.Bits.{bitAnd}
@@ -22,6 +22,7 @@ use Rattle.rules.specs.declared.Device.{Device}
 use Rattle.output.specs.Output.{with-place, discard}
 use Rattle.output.specs.WellFormed.{bad-depth}
 use Rattle.rules.specs.State.{device, capture-of, output-of, fresh-of, fresh, is-open, not-blanking, close-frame, with-cr, with-ris, with-ier, with-cwstrt, with-cwsize, with-escr, with-esur, with-registers, with-syncs, with-frame, with-rate, with-waiting}
+use Rattle.rules.specs.Capture.{blanks}
 use Rattle.rules.specs.Codes.{coded-syncs}
 use Rattle.refusals.specs.Refusals.{Test, _⇒_, first, Answer, answer}
 use Rattle.rules.specs.Answers.{Changed, change}
@@ -34,7 +35,7 @@ number-if t n = cond t n 0
 -- Whether each sync blanks, for SR: by the pins of the last sample; with ESS 1 HSYNC outside a line and VSYNC outside a frame (W6).
 unfoldable pub pin-syncs : Capture → Syncs
 pin-syncs s =
-    record { hsync = Bool·beq (s .pins .hsync) (hspol (s .registers .cr)); vsync = Bool·beq (s .pins .vsync) (vspol (s .registers .cr)) }
+    record { hsync = blanks (s .pins .hsync) (hspol (s .registers .cr)); vsync = blanks (s .pins .vsync) (vspol (s .registers .cr)) }
 
 unfoldable pub shown-syncs : Capture → Syncs
 shown-syncs s = cond (embedded (s .registers .cr)) (coded-syncs s) (pin-syncs s)

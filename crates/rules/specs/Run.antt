@@ -29,26 +29,20 @@ pub record Completed : Type 0 where
   pub device : Device
   pub packed : Packed
 
--- Rule 9 (004, 32.3.10, 32.3.7, 32.5.3 OVR_RIS): OVR rises, the frame closes without FRAME; with CM 1, CAPTURE becomes 0.
+-- An overrun (004, 32.3.10, 32.3.7, 32.5.3 OVR_RIS): OVR rises, the frame closes without FRAME; with CM 1, CAPTURE becomes 0.
 unfoldable pub lose-frame : Capture → Capture
 lose-frame s = close-frame (cond (snapshot (s .registers .cr)) (clear-capture (raise 1 s)) (raise 1 s))
 
--- Rule 9, by what became of the word: it is held, and then FRAME rises where it is due (W4); or it is lost, and with it the held words and the frame.
+-- Rule 9, its two sentences, by what `offer` makes of a full word; the depth for four (W9). "With fewer than four held it is held": then FRAME rises where it is due (W4). "With four held: OVR rises, the
+-- four and the new one are discarded, the frame closes without FRAME; with CM 1, CAPTURE becomes 0."
 unfoldable pub after-word : Fate → ℕ → Captured → OutputState → Completed
 after-word Held v c x = record { device = device (flagged c) x; packed = completed v }
 after-word Lost v c x = record { device = device (lose-frame (c .state)) (discard 1 x); packed = lost }
 
--- Rule 9, W9: with fewer held than the depth a full word is held, with as many there is an overrun.
-unfoldable pub full-word : ℕ → Captured → OutputState → Completed
-full-word v c x = after-word (offer v x .fate) v c (offer v x .state)
-
--- W6: where ERR rose the held words are discarded. There is no word then.
-unfoldable pub without-word : Captured → OutputState → OutputState
-without-word c x = cond (c .error) (discard 0 x) x
-
+-- A sample without a full word: FRAME rises where it is due, and where ERR rose (W6) the held words are discarded; or with one.
 unfoldable pub complete : Option ℕ → Captured → OutputState → Completed
-complete none c x = record { device = device (flagged c) (without-word c x); packed = nothing }
-complete (some v) c x = full-word v c x
+complete none c x = record { device = device (flagged c) (cond (c .error) (discard 0 x) x); packed = nothing }
+complete (some v) c x = after-word (offer v x .fate) v c (offer v x .state)
 
 -- Rules 2 to 9 after the grant.
 unfoldable pub after-grant : Capture → OutputState → ℕ → Completed

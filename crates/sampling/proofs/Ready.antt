@@ -19,7 +19,7 @@ use Rattle.rules.specs.declared.Device.{Device}
 use Rattle.rules.specs.State.{device, capture-of, output-of, with-pins, with-syncs}
 use Rattle.rules.specs.Capture.{enabled, Captured}
 use Rattle.rules.specs.Sample.{capture-sample}
-use Rattle.rules.specs.Run.{counted, completed, Completed, full-word, complete, after-grant, step}
+use Rattle.rules.specs.Run.{counted, completed, Completed, complete, after-grant, step}
 use Rattle.rules.proofs.WellFormed.{CaptureOk, WellFormed, facts}
 use Rattle.full_word.specs.Notes.{note-landing, note-packing}
 use Rattle.sampling.specs.Notes.{Noted, noted-step}
@@ -80,7 +80,7 @@ unfolding ended
 ended-fits {s = s} w v h plain e = rw (← ap (λ (c : Captured). c .state) (sample-padded s w v plain (uncropped (s .registers) (h .allowed)) e)) (sample-ok w h .ris)
 
 pub stepped-padded : (d : Device) (b l v : List ℕ) (w : ℕ) {g : Granted} {r : Completed} → WellFormed d → embedded (d .core .capture .registers .cr) ≡ false → padded-at (capture-of d) w ≡ some (d .core .capture .partial .bits)
-    → g ≡ granted-of d b w → r ≡ full-word (d .core .capture .partial .bits) (with-word (d .core .capture .partial .bits) true (ended (capture-of d) w)) (g .state)
+    → g ≡ granted-of d b w → r ≡ complete (some (d .core .capture .partial .bits)) (with-word (d .core .capture .partial .bits) true (ended (capture-of d) w)) (g .state)
     → _≡_ {A = Noted}
     (record { device = r .device; buffer = g .buffer; landings = note-landing (g .landing) l; words = note-packing (r .packed) v })
     (noted-step (record { device = d; buffer = b; landings = l; words = v }) w)

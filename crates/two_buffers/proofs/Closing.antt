@@ -18,7 +18,7 @@ use Rattle.rules.specs.declared.Device.{Device}
 use Rattle.rules.specs.State.{capture-of, is-open, raise, with-registers}
 use Rattle.rules.specs.Capture.{Captured, flagged}
 use Rattle.rules.specs.Sample.{capture-sample}
-use Rattle.rules.specs.Run.{Packed, Completed, lose-frame, after-word, full-word, complete, after-grant, step}
+use Rattle.rules.specs.Run.{Packed, Completed, lose-frame, after-word, complete, after-grant, step}
 use Rattle.board_rules.specs.TwoBuffers.{landing-event, word-event, frame-event, sample-events}
 use Rattle.board_laws.proofs.TwoKeeps.{keeps-append}
 use Rattle.two_buffers.specs.Answers.{closing-events, events}
@@ -61,7 +61,7 @@ word-closes s Held v c x k = rw (same-frame c)
 word-closes s Lost v c x k = quiet-either k (c .error) (is-open (s .frame) && not (is-open (lose-frame (c .state) .frame))) (is-open (s .frame) && not (is-open (c .state .frame)))
 
 complete-closes : (s : Capture) (o : Option ℕ) (c : Captured) (x : OutputState) → Closes s c (complete o c x)
-unfolding complete full-word frame-event
+unfolding complete frame-event
 complete-closes s none c x k = rw (same-frame c)
 complete-closes s (some v) c x k = word-closes s (offer v x .fate) v c (offer v x .state) k
 

@@ -20,7 +20,7 @@ use Rattle.rules.specs.State.{capture-of, output-of, raise, clear-capture, clos
 use Rattle.rules.specs.Capture.{Captured, flagged}
 use Rattle.rules.specs.Sample.{capture-sample}
 use Rattle.rules.specs.RegisterCalls.{placed}
-use Rattle.rules.specs.Run.{nothing, lost, Completed, lose-frame, after-word, full-word, without-word, complete, after-grant, counted, step}
+use Rattle.rules.specs.Run.{nothing, lost, Completed, lose-frame, after-word, complete, after-grant, counted, step}
 use Rattle.laws.proofs.KeepsSample.{by-word}
 use Rattle.two_buffers.proofs.Calm.{Still, still-sample, word-calms}
 
@@ -64,8 +64,8 @@ abbrev placed-output : ℕ → OutputState → OutputState
 placed-output q x = record { output = with-place q (x .output); slots = x .slots }
 
 word-placed : (v q : ℕ) (c : Captured) (x : OutputState)
-    → full-word v c (placed-output q x) ≡ record { device = placed q (full-word v c x .device); packed = full-word v c x .packed }
-unfolding full-word offer after-word holding with-held with-place contents count-word count-discarded with-counts discard
+    → complete (some v) c (placed-output q x) ≡ record { device = placed q (complete (some v) c x .device); packed = complete (some v) c x .packed }
+unfolding complete offer after-word holding with-held with-place contents count-word count-discarded with-counts discard
 word-placed v q c x = go (ltb (x .output .held) (x .output .depth))
   where
     word : Offered → Completed
@@ -83,7 +83,7 @@ word-placed v q c x = go (ltb (x .output .held) (x .output .depth))
 
 complete-placed : (o : Option ℕ) (q : ℕ) (c : Captured) (x : OutputState)
     → complete o c (placed-output q x) ≡ record { device = placed q (complete o c x .device); packed = complete o c x .packed }
-unfolding complete without-word holding with-held with-place count-discarded with-counts discard
+unfolding complete holding with-held with-place count-discarded with-counts discard
 complete-placed none q c x = go (c .error)
   where
     go : (b : Bool) → let y = placed-output q x in _≡_ {A = Completed} (record { device = record { core = record { capture = flagged c; output = cond b (discard 0 y) y .output }; slots = cond b (discard 0 y) y .slots }; packed = nothing })
@@ -132,7 +132,7 @@ lose-still s e =
 
 complete-lost : (o : Option ℕ) (c : Captured) (x : OutputState) → ((v : ℕ) → o ≡ some v → c .state .syncs .vsync ≡ false) → complete o c x .packed ≡ lost
     → Still false (complete o c x .device .core .capture)
-unfolding complete full-word after-word
+unfolding complete after-word
 complete-lost none c x calm e = let z : _≡_ {A = ℕ} 0 1 = cc in absurd (omega arith)
 complete-lost (some v) c x calm e = go (offer v x .fate) e
   where

@@ -1,5 +1,7 @@
 -- `capture::has_partial` meets its contract. Assumes nothing.
 use borrow.Author.Needs.{needs}
+use Rattle.packing.proofs.Zeros.{zero-filled-bits}
+use Rattle.registers.specs.Control.{edm}
 use Rattle.rules.specs.Capture.{padded}
 use Rattle.capture.proofs.has_partial.Statement.{statement}
 use Rattle.capture.proofs.has_partial.Tie as tie
@@ -7,11 +9,13 @@ use Rattle.capture.proofs.has_partial.Tie as tie
 returns : tie.Need-returns
 unfolding padded
 returns c =
+    let a = c .before .before .before .before .before .before .before .args in
     rw (
       c .before .before .before .before .before .frame .given .1,
       c .before .before .before .if1 .taken,
       ← c .before .before .jpeg .ensures,
       c .before .if2 .taken,
+      zero-filled-bits (edm (a .s .registers .cr)) (a .s .partial .count) (a .s .partial .bits),
     )
 
 returns-2 : tie.Need-returns-2

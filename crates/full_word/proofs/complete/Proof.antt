@@ -1,12 +1,12 @@
 -- `full_word::complete` meets its contract. Assumes nothing.
 use borrow.Author.Needs.{needs}
 use Rattle.rules.specs.Capture.{flagged}
-use Rattle.rules.specs.Run.{without-word, complete}
+use Rattle.rules.specs.Run.{complete}
 use Rattle.full_word.proofs.complete.Statement.{statement}
 use Rattle.full_word.proofs.complete.Tie as tie
 
 returns : tie.Need-returns
-unfolding complete without-word flagged
+unfolding complete flagged
 returns c = rw (c .enum-told .given .1)
 
 returns-2 : tie.Need-returns-2

@@ -2,13 +2,13 @@
 use borrow.Author.Needs.{needs}
 use mathlib.Core.Path.{_∙_}
 use Rattle.rules.specs.Capture.{flagged}
-use Rattle.rules.specs.Run.{without-word, complete}
+use Rattle.rules.specs.Run.{complete}
 use Rattle.full_word.proofs.Fates.{word-coded}
 use Rattle.full_word.proofs.complete_coded.Statement.{statement}
 use Rattle.full_word.proofs.complete_coded.Tie as tie
 
 returns : tie.Need-returns
-unfolding complete without-word flagged
+unfolding complete flagged
 returns c =
     rw (
       c .before .before .before .before .enum-told .given .1,
@@ -18,7 +18,7 @@ returns c =
     )
 
 returns-2 : tie.Need-returns-2
-unfolding complete without-word flagged
+unfolding complete flagged
 returns-2 c = rw (c .before .before .enum-told .given .1, ← c .before .flagged .ensures, c .if1 .left)
 
 returns-3 : tie.Need-returns-3

@@ -5,12 +5,12 @@ use Rattle.output.specs.Answers.{left}
 use Rattle.output.specs.Output.{OutputState, Offered, count-word, with-counts}
 use Rattle.output.proofs.Untouched.{offer-lost}
 use Rattle.rules.specs.Capture.{flagged}
-use Rattle.rules.specs.Run.{after-word, full-word}
+use Rattle.rules.specs.Run.{after-word, complete}
 use Rattle.full_word.proofs.full_word.Statement.{statement}
 use Rattle.full_word.proofs.full_word.Tie as tie
 
 returns : tie.Need-returns
-unfolding full-word after-word flagged
+unfolding complete after-word flagged
 returns c =
     let e = c .before .before .before .offer .ensures in
     rw (← ap (λ (r : Offered). r .fate) e, ← ap (λ (r : Offered). r .state) e, c .enum-told .given .1, c .before .before .before .before .before .apart .ensures)
@@ -27,7 +27,7 @@ discard-requires c κs =
     rw same (c .before .before .before .before .before .before .before .before .pre .1 .2)
 
 returns-2 : tie.Need-returns-2
-unfolding full-word after-word flagged
+unfolding complete after-word flagged
 returns-2 c =
     let e = c .before .before .before .before .before .before .offer .ensures in
     rw (← ap (λ (r : Offered). r .fate) e, ← ap (λ (r : Offered). r .state) e, c .before .before .before .enum-told2 .given .1, ← c .discard .ensures, c .before .before .lose-frame .ensures, c .before .before .before .before .before .before .before .before .apart .ensures)

@@ -3,14 +3,14 @@ use borrow.Author.Needs.{needs}
 use mathlib.Core.Path.{sym, ap, _∙_}
 use Rattle.output.specs.Answers.{left}
 use Rattle.output.specs.Output.{offer}
-use Rattle.rules.specs.Run.{Completed, full-word}
+use Rattle.rules.specs.Run.{Completed, complete}
 use Rattle.full_word.specs.Answers.{packing}
 use Rattle.full_word.proofs.Fates.{held-flagged, lost-same, not-nothing}
 use Rattle.full_word.proofs.padded_word.Statement.{statement}
 use Rattle.full_word.proofs.padded_word.Tie as tie
 
 returns : tie.Need-returns
-unfolding full-word
+unfolding complete
 returns c =
     let a = c .before .before .before .before .before .before .before .args in
     let x = left (a .o) (a .slots .now) in
@@ -19,7 +19,7 @@ returns c =
     rw (held-flagged (offer (a .v) x .fate) (a .v) _ (a .s) (offer (a .v) x .state) p, ← e, c .before .raise-frame .ensures)
 
 returns-2 : tie.Need-returns-2
-unfolding full-word
+unfolding complete
 returns-2 c =
     let a = c .before .before .before .before .before .args in
     let x = left (a .o) (a .slots .now) in
@@ -28,7 +28,7 @@ returns-2 c =
     rw (not-nothing (offer (a .v) x .fate) (a .v) (a .s) (offer (a .v) x .state) p) e
 
 returns-3 : tie.Need-returns-3
-unfolding full-word
+unfolding complete
 returns-3 c =
     let a = c .before .before .before .before .before .args in
     let x = left (a .o) (a .slots .now) in
