@@ -1,4 +1,4 @@
--- What stands after the first of the accepted samples, in both modes (W2), under the premises (`standing`), and what one more makes of it (`more`). The idea: the output rules are read over a frame buffer of their
+-- What stands after the first of the accepted samples, in both modes (W2), while ERR has not risen (`standing`), and what one more makes of it (`more`). The idea: the output rules are read over a frame buffer of their
 -- own, with room for all words, and land every word; where each one really lands is told beside that. Assumes nothing.
 use mathlib.Core.Bool.{Bool, true, false, true≢false}
 use mathlib.Core.List.{List, [], _∷_, _++_, append-nil}
@@ -27,11 +27,11 @@ use Rattle.rules.specs.Sample.{capture-sample, next-capture}
 use Rattle.laws.proofs.RegisterValues.{eight-bits}
 use Rattle.laws.proofs.Sampled.{next-overrun, next-enable, word-enabled}
 use Rattle.board_rules.specs.State.{is-two}
-use Rattle.board_rules.specs.BoardRuns.{lent, memories}
+use Rattle.board_rules.specs.BoardRuns.{lent}
 use Rattle.delivery.specs.Calls.{System, stepped}
 use Rattle.delivery.specs.Noted.{Turn, first-turn, word-turn, next-turn, Noted, note, noted, words, any-error}
 use Rattle.delivery.specs.Placed.{with-noted}
-use Rattle.delivery.specs.Delivery.{Scenario, set-up, trace, configured, distance, Room, Premises, All}
+use Rattle.delivery.specs.Delivery.{Scenario, set-up, trace, configured, distance, start-bytes, Room, Provided, All}
 use Rattle.delivery.proofs.Alls.{all-first}
 use Rattle.delivery.proofs.Inputs.{input, inputs, captures, captures-append, inputs-append, inputs-length, window-grants, inputs-words, count-words, first-calm}
 use Rattle.delivery.proofs.Spacing.{always-spaced, spacing-positive}
@@ -92,7 +92,7 @@ module _ (x : Scenario) where
   abbrev pub At : List ℕ → System → Type 0
   At xs s = Standing x two (captures first xs) (out xs .state) (turn xs) (words-of xs) s
 
-module _ (x : Scenario) (p : Premises x) where
+module _ (x : Scenario) (p : Provided x) where
   -- The premises, as the output rules have them.
   conditions : Conditions (enabled (first x)) (x .depth) (distance x) (own x) (inputs (first x) (trace x))
   conditions =
@@ -110,9 +110,6 @@ module _ (x : Scenario) (p : Premises x) where
     split : Conditions (enabled (first x)) (x .depth) (distance x) (own x) (inputs (first x) xs ++ inputs (captures (first x) xs) zs)
     split = rw (← inputs-append, ← e) conditions
 
-    calm : any-error (first x) xs ≡ false
-    calm = first-calm (first x) xs zs (rw e at (p .no-error))
-
     fit : Fits (enabled (first x)) (empty (x .depth) (own x)) (inputs (first x) xs)
     fit = fits (inputs (first x) xs) (inputs (captures (first x) xs) zs) split
 
@@ -128,8 +125,8 @@ module _ (x : Scenario) (p : Premises x) where
     own-room : (vs : List ℕ) → contents (out x xs .state) ≡ vs → Roomy vs (out x xs .state .output .place) (out x xs .buffer)
     own-room vs is pos = oldest-room (inputs (first x) xs) (inputs (captures (first x) xs) zs) split (rw is pos)
 
-  -- One more sample.
-  module _ (xs zs : List ℕ) (w : ℕ) (e : trace x ≡ xs ++ w ∷ zs) where
+  -- One more sample, ERR rising at none so far.
+  module _ (xs zs : List ℕ) (w : ℕ) (e : trace x ≡ xs ++ w ∷ zs) (calm : any-error (first x) (xs ++ w ∷ []) ≡ false) where
     abbrev c : Capture
     c = captures (first x) xs
 
@@ -159,15 +156,15 @@ module _ (x : Scenario) (p : Premises x) where
     out-more : out x (xs ++ w ∷ []) ≡ put (enabled (first x)) (out x xs) (input c w)
     out-more = rw inputs-more (puts-snoc (enabled (first x)) (empty (x .depth) (own x)) (inputs (first x) xs) (input c w))
 
-    sampled-more : sampled (set-up x) (xs ++ w ∷ []) ≡ stepped (sampled (set-up x) xs) w
+    sampled-more : sampled (start-bytes x) (set-up x) (xs ++ w ∷ []) ≡ stepped (start-bytes x) (sampled (start-bytes x) (set-up x) xs) w
     unfolding sampled
-    sampled-more = sampled-append (set-up x) xs (w ∷ [])
+    sampled-more = sampled-append (start-bytes x) (set-up x) xs (w ∷ [])
 
     fair : Fair (enabled (first x)) c (out x xs) w
     fair =
         record {
           enabled = same-enable (first x) xs;
-          quiet = last-calm (first x) xs w (calm (xs ++ w ∷ []) zs longer);
+          quiet = last-calm (first x) xs w calm;
           roomy = own-room xs (w ∷ zs) e;
           space = last-fits _ _ (inputs (first x) xs) (input c w) (rw inputs-more at (fit (xs ++ w ∷ []) zs longer));
         }
@@ -176,7 +173,7 @@ module _ (x : Scenario) (p : Premises x) where
         ≡ length (words-of x xs ++ note-here)
     all-there = rw (← out-more, ← words-more) (lands (xs ++ w ∷ []) zs longer .split ∙ count-words (two x) (first-turn (two x)) (first x) (xs ++ w ∷ []))
 
-    pub more : At x xs (sampled (set-up x) xs) → At x (xs ++ w ∷ []) (sampled (set-up x) (xs ++ w ∷ [])) × (packs (sampled (set-up x) xs) w ≡ answered (capture-sample c w .word))
+    pub more : At x xs (sampled (start-bytes x) (set-up x) xs) → At x (xs ++ w ∷ []) (sampled (start-bytes x) (set-up x) (xs ++ w ∷ [])) × (packs (start-bytes x) (sampled (start-bytes x) (set-up x) xs) w ≡ answered (capture-sample c w .word))
     more g =
         let (stands, says) = sample-stands x c (out x xs) (turn x xs) (words-of x xs) _ (0 + length xs + 1) w fair (rooms xs (w ∷ zs) e) (held xs (w ∷ zs) e) g all-there in
         (rw (captures-more, turn-more, words-more, out-more, sampled-more) stands, says)
@@ -188,7 +185,7 @@ module _ (x : Scenario) (p : Premises x) where
       record {
         place = 0;
         mode = mode-of (two x);
-        memories = x .lent;
+        both = x .lent;
         is = rw (r .is);
         is-mode = mode-is (two x);
         done = [];
@@ -211,6 +208,9 @@ module _ (x : Scenario) (p : Premises x) where
       first-told : (u : Buffer) → lent u (x .lent) ≡ record { memory = lent u (x .lent) .memory; start = lent u (x .lent) .start }
       first-told u = refl
 
-  pub standing : (xs zs : List ℕ) → trace x ≡ xs ++ zs → At x xs (sampled (set-up x) xs)
+  pub standing : (xs zs : List ℕ) → trace x ≡ xs ++ zs → any-error (first x) xs ≡ false → At x xs (sampled (start-bytes x) (set-up x) xs)
   unfolding sampled
-  standing = grows (λ xs. At x xs (sampled (set-up x) xs)) (trace x) (λ xs zs w e g. more xs zs w e g .0) started
+  standing =
+      grows (λ xs. any-error (first x) xs ≡ false → At x xs (sampled (start-bytes x) (set-up x) xs)) (trace x)
+      (λ xs zs w e g calm. more xs zs w e calm (g (first-calm (first x) xs (w ∷ []) calm)) .0)
+      (λ calm. started)

@@ -1,4 +1,4 @@
--- With one buffer demand 3 says what it said before W2 (`as-before`): room for all words behind the start byte is the premise, and the landed words stand one behind the other in A, the other memory being
+-- With one buffer demand 3 says what it said before W2 (`as-before`): one start byte, and room for all words behind it, are the premises, and the landed words stand one behind the other in A, the other memory being
 -- left alone. The idea: with one buffer the noted words are numbered 0, 1, 2 and so on, all in A. Assumes nothing.
 use mathlib.Core.Bool.{Bool, false}
 use mathlib.Core.List.{List, [], _∷_, _++_, append-assoc, append-nil}
@@ -17,10 +17,10 @@ use Rattle.rules.specs.declared.Capture.{Capture}
 use Rattle.rules.specs.Sample.{capture-sample, next-capture}
 use Rattle.board_rules.specs.TwoBuffers.{part}
 use Rattle.board_rules.specs.BoardRuns.{frame-buffer}
-use Rattle.delivery.specs.Calls.{Moment}
+use Rattle.delivery.specs.Calls.{one-memory, Moment}
 use Rattle.delivery.specs.Noted.{Turn, first-turn, word-turn, turn-after, next-turn, Noted, note, noted, words, any-error}
 use Rattle.delivery.specs.Placed.{with-word, with-noted}
-use Rattle.delivery.specs.Delivery.{grants, Scenario, trace, configured, distance, noted-by, Room, Premises, landed-at, Promised, All, all-moments}
+use Rattle.delivery.specs.Delivery.{grants, Scenario, set-up, trace, configured, distance, noted-by, One-start, Room, Premises, landed-at, Promised, All, all-moments}
 use Rattle.delivery.proofs.Alls.{all-first, all-map}
 use Rattle.delivery.proofs.NotedNumbers.{noted-append}
 use Rattle.delivery.proofs.Stored.{refilled-word}
@@ -129,7 +129,7 @@ memory-before x one p m q =
     let ns = noted-by x (m .count) in
     let k = landed-at m in
     let l = take-in-line k 0 ns (in-line x one (m .count)) in
-    let rooms = all-first (Room x) (take k ns) (drop k ns) (rw take-append-drop (first-rooms x (p .room) (m .count))) in
+    let rooms = all-first (Room x) (take k ns) (drop k ns) (rw take-append-drop (first-rooms x (p .provided .room) (m .count))) in
     record {
       in-memory = q .in-memory A ∙ line-memory x (take k ns) l rooms ∙ rw take-words;
       left-alone = q .in-memory B ∙ in-b-none _ _ 0 (take k ns) l;
@@ -137,10 +137,11 @@ memory-before x one p m q =
 
 -- The premises, as they were, and all that is promised.
 pub as-before : (x : Scenario) → configured x .two ≡ false → bad-depth (x .depth) ≡ false
+    → One-start (one-memory (x .lent .a .start)) (set-up x) (x .calls)
     → 4 * length (noted-by x (length (trace x))) ≤ length (x .lent .a .memory) - x .lent .a .start
     → ((k : ℕ) → k + x .depth * distance x ≤ length (trace x) → x .depth ≤ grants (take (x .depth * distance x) (drop k (trace x))))
     → any-error (configured x .capture) (trace x) ≡ false
     → All (λ m. Promised x m × OneMemory x m) (all-moments x)
-as-before x one made room granted calm =
-    let p : Premises x = record { made = made; room = room-before x one room; granted = granted; no-error = calm } in
+as-before x one made from room granted calm =
+    let p : Premises x = record { provided = record { made = made; one-start = rw one from; room = room-before x one room; granted = granted }; no-error = calm } in
     all-map (Promised x) (λ m. Promised x m × OneMemory x m) (λ m q. (q, memory-before x one p m q)) (all-moments x) (delivery x p)

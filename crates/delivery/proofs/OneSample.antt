@@ -7,7 +7,7 @@ use native.Mathlib.Omega.{arith}
 use lib.ListN.{length, drop, length-append, length-map}
 use lib.Seq.{drop-at}
 use Rattle.buffers.specs.declared.Buffer.{Buffer}
-use Rattle.buffers.specs.declared.Buffer.the-variants.{A}
+use Rattle.buffers.specs.declared.Buffer.the-variants.{A, B}
 use Rattle.buffers.specs.Turns.{oldest-buffer, oldest-place}
 use Rattle.output.specs.Output.{OutputState, contents, count-sample, with-counts}
 use Rattle.samples.specs.Samples.{bus-grant}
@@ -20,9 +20,9 @@ use Rattle.board_rules.specs.declared.Mode.{Mode}
 use Rattle.board_rules.specs.declared.Mode.the-variants.{One, Two}
 use Rattle.board_rules.specs.State.{is-two}
 use Rattle.board_rules.specs.BoardRuns.{Both, lent}
-use Rattle.delivery.specs.Calls.{System, stepped}
+use Rattle.delivery.specs.Calls.{Starts, System, stepped}
 use Rattle.delivery.specs.Noted.{Turn, word-turn, next-turn, Noted, note, words}
-use Rattle.delivery.specs.Delivery.{All, Scenario, Room}
+use Rattle.delivery.specs.Delivery.{All, Scenario, starts-in, Room}
 use Rattle.delivery.proofs.Inputs.{input}
 use Rattle.delivery.proofs.Following.{answered, Roomy}
 use Rattle.delivery.proofs.Chain.{chain-note, chain-landing, gone, left, passed, gone-left}
@@ -33,13 +33,18 @@ use Rattle.delivery.proofs.Sampling.{packs}
 use Rattle.delivery.proofs.Standing.{system, Turning, told, Standing, Fair, real-room, lands-first, one-lands}
 use Rattle.delivery.proofs.Stepping.{one-stepped, two-stepped, one-told, two-told, same-buffer}
 
--- What is to be shown of a sample: it keeps what stands, and answers its word.
-abbrev pub Step : Bool → Bool → Scenario → Capture → Out → Turn → ℕ → ℕ → List Noted → System → Type 0
-Step on two x c o t i w ns s =
+-- The memories in which words have landed have the scenario's starts.
+same-starts : (two : Bool) (x : Scenario) (l : Both) (done : List Noted) → ((u : Buffer) → lent u l ≡ told x u done) → starts-in two l ≡ starts-in two (x .lent)
+same-starts true x l done so = rw (so A, so B)
+same-starts false x l done so = rw (so A)
+
+-- What is to be shown of a sample with these starts: it keeps what stands, and answers its word.
+abbrev pub Step : Bool → Bool → Starts → Scenario → Capture → Out → Turn → ℕ → ℕ → List Noted → System → Type 0
+Step on two from x c o t i w ns s =
     let y = put on o (input c w) .state in
     let ns′ = ns ++ note i (word-turn two t) (capture-sample c w .word) in
     y .output .counts .landed + y .output .held ≡ length ns′
-    → Standing x two (next-capture c w) y (next-turn two t c (capture-sample c w)) ns′ (stepped s w) × (packs s w ≡ answered (capture-sample c w .word))
+    → Standing x two (next-capture c w) y (next-turn two t c (capture-sample c w)) ns′ (stepped from s w) × (packs from s w ≡ answered (capture-sample c w .word))
 
 -- One sample, with number i.
 module _ {on : Bool} (x : Scenario) (c : Capture) (o : Out) (t : Turn) (i w : ℕ) (f : Fair on c o w) (done rest : List Noted) (rooms : All (Room x) (done ++ rest))
@@ -73,7 +78,7 @@ module _ {on : Bool} (x : Scenario) (c : Capture) (o : Out) (t : Turn) (i w : �
       ∙ rw (landed, length-append)
 
   stands-in : (two : Bool) (m : Mode) (p : ℕ) (l : Both) (line : Turn) → is-two m ≡ two → Turning m p (o .state .output .held) line rest t
-      → ((u : Buffer) → lent u l ≡ told x u done) → Step on two x c o t i w (done ++ rest) (system (placed p (device c (o .state))) m l)
+      → ((u : Buffer) → lent u l ≡ told x u done) → Step on two (starts-in two l) x c o t i w (done ++ rest) (system (placed p (device c (o .state))) m l)
   unfolding next-turn
   stands-in true One p l line mode g told-so all = absurd (false≢true mode)
   stands-in false (Two k) p l line mode g told-so all = absurd (true≢false mode)
@@ -84,7 +89,7 @@ module _ {on : Bool} (x : Scenario) (c : Capture) (o : Out) (t : Turn) (i w : �
         record {
           place = _;
           mode = One;
-          memories = _;
+          both = _;
           is = is;
           is-mode = refl;
           done = done′;
@@ -109,7 +114,7 @@ module _ {on : Bool} (x : Scenario) (c : Capture) (o : Out) (t : Turn) (i w : �
         record {
           place = _;
           mode = _;
-          memories = _;
+          both = _;
           is = is;
           is-mode = refl;
           done = done′;
@@ -123,13 +128,16 @@ module _ {on : Bool} (x : Scenario) (c : Capture) (o : Out) (t : Turn) (i w : �
         says,
       )
 
--- The same from what stands after the samples before it.
+-- The same from what stands after the samples before it, with the scenario's starts.
 pub sample-stands : {on two : Bool} (x : Scenario) (c : Capture) (o : Out) (t : Turn) (ns : List Noted) (s : System) (i w : ℕ) → Fair on c o w → All (Room x) ns
-    → contents (o .state) ≡ drop (o .state .output .counts .landed) (words ns) → Standing x two c (o .state) t ns s → Step on two x c o t i w ns s
+    → contents (o .state) ≡ drop (o .state .output .counts .landed) (words ns) → Standing x two c (o .state) t ns s → Step on two (starts-in two (x .lent)) x c o t i w ns s
 sample-stands {on} {two} x c o t ns s i w f rooms held g =
     let done = g .done in
     let rest = g .rest in
+    let from = starts-in two (x .lent) in
+    let now = system (placed (g .place) (device c (o .state))) (g .mode) (g .both) in
     let long : length (words done) ≡ o .state .output .counts .landed = rw (length-map, g .landed) in
     let e : contents (o .state) ≡ words rest = held ∙ rw (g .whole, map-append) (drop-at (words done) (words rest) _ long) in
-    let step = stands-in x c o t i w f done rest (rw (g .whole) at rooms) e (g .landed) two (g .mode) (g .place) (g .memories) (g .line) (g .is-mode) (g .turning) (g .told) in
-    subst (λ (ns : List Noted). Step on two x c o t i w ns s) (sym (g .whole)) (subst (λ (s : System). Step on two x c o t i w (done ++ rest) s) (sym (g .is)) step)
+    let step = stands-in x c o t i w f done rest (rw (g .whole) at rooms) e (g .landed) two (g .mode) (g .place) (g .both) (g .line) (g .is-mode) (g .turning) (g .told) in
+    let started = subst (λ (from : Starts). Step on two from x c o t i w (done ++ rest) now) (same-starts two x (g .both) done (g .told)) step in
+    subst (λ (ns : List Noted). Step on two from x c o t i w ns s) (sym (g .whole)) (subst (λ (s : System). Step on two from x c o t i w (done ++ rest) s) (sym (g .is)) started)

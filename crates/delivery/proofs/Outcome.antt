@@ -1,13 +1,13 @@
 -- What a closed scenario comes to, by computation over the rules (`outcome`), and the premises from their test; unfolding `outcome` unfolds every rule.
 -- At the end what closed scenarios are made of. Assumes nothing.
-use mathlib.Core.Bool.{Bool, true, false, cond, not, _&&_, _||_}
+use mathlib.Core.Bool.{Bool, true, false, cond, not, _&&_, _||_, false≢true}
 use mathlib.Core.List.{List, [], _∷_, _++_, map}
 use mathlib.Core.Path.{_≡_}
 use Prim.Native.Nat.{ℕ, zero, suc, _+_, _*_, _/_, _%_, _≤_}
 use native.Mathlib.Omega.{arith}
 use lib.Dec.{eqb, ltb, leb}
 use lib.ListN.{length, take, drop, replicate, length-drop}
-use borrow.Author.Tests.{leb-true, le-ltb, not-true}
+use borrow.Author.Tests.{leb-true, le-ltb, eqb-true, ne-eqb, not-true}
 use Rattle.bits.specs.Bits.{bit}
 use Rattle.bits.proofs.Booleans.{and-true}
 use Rattle.output.specs.Output.{contents}
@@ -21,9 +21,9 @@ use Rattle.board_rules.specs.TwoBuffers.{frame-event, sample-events, two-step, 
 use Rattle.board_rules.specs.BoardCalls as board-calls
 use Rattle.board_rules.specs.BoardRuns as board-runs
 use Rattle.board_rules.specs.BoardRuns.{Both, lent, frame-buffer, one-refusal, two-refusal, turns-of}
-use Rattle.delivery.specs.Calls.{SetUpCall, a-write, after-set-up, after-set-ups, boards, Call, a-run, System, refusal, accepted, after-call, samples, stepped-in, inside, moments}
+use Rattle.delivery.specs.Calls.{SetUpCall, a-write, after-set-up, after-set-ups, boards, Starts, one-memory, two-memories, Call, a-run, starts-of, System, refusal-of, refusal, accepted, after-call, samples, stepped, inside, moments}
 use Rattle.delivery.specs.Noted.{write-found, noted-write, with-mode, noted-set-up, noted-set-ups, word-turn, turn-after, next-turn, Noted, note, noted, any-error, spacing}
-use Rattle.delivery.specs.Delivery.{grants, Scenario, set-up, trace, configured, distance, noted-by, Room, Premises, All, all-moments}
+use Rattle.delivery.specs.Delivery.{grants, Scenario, set-up, trace, configured, distance, noted-by, start-bytes, One-start, Room, Provided, Premises, All, all-moments}
 
 -- A test that each tail of a list passes.
 abbrev pub tails : (List ℕ → Bool) → List ℕ → Bool
@@ -45,12 +45,39 @@ each-all : {A : Type 0} (P : A → Type 0) (f : A → Bool) → ((a : A) → f a
 each-all P f is [] e = tt
 each-all P f is (x ∷ xs) e = let (here, rest) = and-true (f x) (each f xs) e in (is x here, each-all P f is xs rest)
 
--- The premises with windows of w samples and g grants in each; two of their tests.
+-- The premises but for that of ERR, with windows of w samples and g grants in each; three of their tests.
 pub record Windows (w g : ℕ) (x : Scenario) : Type 0 where
   pub made : bad-depth (x .depth) ≡ false
+  pub one-start : One-start (start-bytes x) (set-up x) (x .calls)
   pub room : All (Room x) (noted-by x (length (trace x)))
   pub granted : (k : ℕ) → k + w ≤ length (trace x) → g ≤ grants (take w (drop k (trace x)))
-  pub no-error : any-error (configured x .capture) (trace x) ≡ false
+
+abbrev same-starts : Starts → Starts → Bool
+same-starts (one-memory start) (one-memory start′) = eqb start start′
+same-starts (one-memory start) (two-memories start-a start-b) = false
+same-starts (two-memories start-a start-b) (one-memory start) = false
+same-starts (two-memories start-a start-b) (two-memories start-a′ start-b′) = eqb start-a start-a′ && eqb start-b start-b′
+
+same-starts-true : (t u : Starts) → same-starts t u ≡ true → t ≡ u
+same-starts-true (one-memory start) (one-memory start′) e = rw (eqb-true start start′ e)
+same-starts-true (one-memory start) (two-memories start-a start-b) e = absurd (false≢true e)
+same-starts-true (two-memories start-a start-b) (one-memory start) e = absurd (false≢true e)
+same-starts-true (two-memories start-a start-b) (two-memories start-a′ start-b′) e =
+    let (a, b) = and-true (eqb start-a start-a′) (eqb start-b start-b′) e in rw (eqb-true start-a start-a′ a, eqb-true start-b start-b′ b)
+
+abbrev from-start : Starts → System → List Call → Bool
+from-start t s [] = true
+from-start t s (c ∷ cs) = (eqb (length (accepted s c)) 0 || same-starts (starts-of c) t) && from-start t (after-call s c) cs
+
+from-start-true : (t : Starts) (s : System) (cs : List Call) → from-start t s cs ≡ true → One-start t s cs
+from-start-true t s [] e = tt
+from-start-true t s (c ∷ cs) e =
+    let none = eqb (length (accepted s c)) 0 in
+    let (here, rest) = and-true (none || same-starts (starts-of c) t) (from-start t (after-call s c) cs) e in
+    (λ some. same-starts-true (starts-of c) t (rw (ne-eqb (length (accepted s c)) 0 (omega arith)) at here), from-start-true t (after-call s c) cs rest)
+
+abbrev pub has-start : Scenario → Bool
+has-start x = from-start (start-bytes x) (set-up x) (x .calls)
 
 abbrev fits : Scenario → Noted → Bool
 fits x n = leb (4 * n .turn .number + 4) (length (frame-buffer (lent (n .turn .buffer) (x .lent))))
@@ -61,7 +88,11 @@ has-room x = each (fits x) (noted-by x (length (trace x)))
 abbrev pub has-grants : ℕ → ℕ → List ℕ → Bool
 has-grants w g xs = ltb (length xs) w || leb g (grants (take w xs))
 
--- Board and memories after all calls.
+-- The refusal numbers of all calls, in order, 0 of an accepted one; board and memories after them.
+unfoldable pub numbers : System → List Call → List ℕ
+numbers s [] = []
+numbers s (c ∷ cs) = refusal s c ∷ numbers (after-call s c) cs
+
 unfoldable pub final : System → List Call → System
 final s [] = s
 final s (c ∷ cs) = final (after-call s c) cs
@@ -72,14 +103,15 @@ unfolding turn-rules.fresh-turns turn-rules.with-turn turn-rules.with-tags turn-
 every-board-rule = tt
 
 unfoldable every-note : Unit {0}
-unfolding after-set-up after-set-ups boards refusal accepted after-call samples stepped-in inside moments write-found noted-write with-mode noted-set-up noted-set-ups word-turn turn-after next-turn note noted any-error spacing
+unfolding after-set-up after-set-ups boards refusal-of accepted after-call samples stepped inside moments write-found noted-write with-mode noted-set-up noted-set-ups word-turn turn-after next-turn note noted any-error spacing
 every-note = tt
 
--- Whether a scenario has these windows, its spacing, how many moments and accepted samples it has, the numbers of the samples at which
--- words are noted, and of the device at the end its counts, its held words and OVR.
+-- Whether a scenario has these windows, its spacing, its calls' refusal numbers, how many moments and accepted samples it has, the numbers of the samples at which
+-- words are noted, and of the device at the end its counts, its held words and OVR; and whether ERR rises at a sample, by the capture rules.
 pub record Outcome : Type 0 where
   pub met : Bool
   pub distance : ℕ
+  pub refusals : List ℕ
   pub moments : ℕ
   pub samples : ℕ
   pub noted : List ℕ
@@ -88,14 +120,16 @@ pub record Outcome : Type 0 where
   pub discarded : ℕ
   pub held : List ℕ
   pub overrun : Bool
+  pub error : Bool
 
 unfoldable pub outcome : ℕ → ℕ → Scenario → Outcome
-unfolding every-rule every-board-rule every-note final grants
+unfolding every-rule every-board-rule every-note numbers final grants
 outcome w g x =
     let d = final (set-up x) (x .calls) .board .device in
     record {
-      met = not (bad-depth (x .depth)) && (has-room x && (tails (has-grants w g) (trace x) && not (any-error (configured x .capture) (trace x))));
+      met = not (bad-depth (x .depth)) && (has-start x && (has-room x && tails (has-grants w g) (trace x)));
       distance = distance x;
+      refusals = numbers (set-up x) (x .calls);
       moments = length (all-moments x);
       samples = length (trace x);
       noted = map (λ n. n .sample) (noted-by x (length (trace x)));
@@ -104,29 +138,35 @@ outcome w g x =
       discarded = d .core .output .counts .discarded;
       held = contents (output-of d);
       overrun = bit 1 (d .core .capture .registers .ris);
+      error = any-error (configured x .capture) (trace x);
     }
 
 pub windows : (w g : ℕ) (x : Scenario) → outcome w g x .met ≡ true → Windows w g x
 unfolding outcome
 windows w g x e =
-    let calm = not (any-error (configured x .capture) (trace x)) in
-    let (sound, rest) = and-true (not (bad-depth (x .depth))) (has-room x && (tails (has-grants w g) (trace x) && calm)) e in
-    let (space, others) = and-true (has-room x) (tails (has-grants w g) (trace x) && calm) rest in
-    let (dense, quiet) = and-true (tails (has-grants w g) (trace x)) calm others in
+    let dense = tails (has-grants w g) (trace x) in
+    let (sound, rest) = and-true (not (bad-depth (x .depth))) (has-start x && (has-room x && dense)) e in
+    let (from, others) = and-true (has-start x) (has-room x && dense) rest in
+    let (space, often) = and-true (has-room x) dense others in
     record {
       made = not-true _ sound;
+      one-start = from-start-true (start-bytes x) (set-up x) (x .calls) from;
       room = each-all (Room x) (fits x) (λ n h. leb-true _ _ h) (noted-by x (length (trace x))) space;
-      granted = λ k h. window k h (each-tail (has-grants w g) (trace x) dense k);
-      no-error = not-true _ quiet;
+      granted = λ k h. window k h (each-tail (has-grants w g) (trace x) often k);
     }
   where
     window : (k : ℕ) → k + w ≤ length (trace x) → has-grants w g (drop k (trace x)) ≡ true → g ≤ grants (take w (drop k (trace x)))
     window k h t = leb-true g _ (rw (le-ltb (length (drop k (trace x))) w (rw length-drop (omega arith))) at t)
 
--- The premises themselves, for s samples from word to word.
-pub premises : (s : ℕ) (x : Scenario) → outcome (x .depth * s) (x .depth) x .met ≡ true → outcome (x .depth * s) (x .depth) x .distance ≡ s → Premises x
+-- The premises themselves, for s samples from word to word: but for that of ERR, and all.
+pub provided : (s : ℕ) (x : Scenario) → outcome (x .depth * s) (x .depth) x .met ≡ true → outcome (x .depth * s) (x .depth) x .distance ≡ s → Provided x
 unfolding outcome
-premises s x e is = let h = windows (x .depth * s) (x .depth) x e in record { made = h .made; room = h .room; granted = rw is (h .granted); no-error = h .no-error }
+provided s x e is = let h = windows (x .depth * s) (x .depth) x e in record { made = h .made; one-start = h .one-start; room = h .room; granted = rw is (h .granted) }
+
+pub premises : (s : ℕ) (x : Scenario) → outcome (x .depth * s) (x .depth) x .met ≡ true → outcome (x .depth * s) (x .depth) x .distance ≡ s
+    → outcome (x .depth * s) (x .depth) x .error ≡ false → Premises x
+unfolding outcome
+premises s x e is calm = record { provided = provided s x e is; no-error = calm }
 
 -- Writes of CR: 12 bits and 8 bits, snapshot, polarities 1, enabled and capturing.
 abbrev pub twelve-bits : SetUpCall
@@ -183,7 +223,7 @@ one-run-of depth cr ws =
     record {
       depth = depth;
       set-up-calls = cr ∷ [];
-      calls = a-run (0x0C000 ∷ 0x1C000 ∷ ws) ∷ [];
+      calls = a-run (one-memory 0) (0x0C000 ∷ 0x1C000 ∷ ws) ∷ [];
       lent = alone 0 (replicate (length ws) 0xEE);
     }
 

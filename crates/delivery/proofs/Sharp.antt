@@ -8,13 +8,15 @@ use native.Mathlib.Omega.{arith}
 use lib.ListN.{length, replicate}
 use Rattle.bits.specs.Bits.{bit}
 use Rattle.queue.proofs.Sharp as queue
-use Rattle.delivery.specs.Calls.{two-buffers, a-run, a-run-two}
-use Rattle.delivery.specs.Delivery.{Scenario, set-up, trace, noted-by}
+use Rattle.delivery.specs.Calls.{two-buffers, one-memory, two-memories, a-run}
+use Rattle.delivery.specs.Noted.{any-error}
+use Rattle.delivery.specs.Delivery.{Scenario, set-up, trace, configured, noted-by}
 use Rattle.delivery.proofs.Outcome.{Windows, final, Outcome, outcome, windows, twelve-bits, eight-bits, coded, clocked, code, granting, pixels, every, periods, alone, one-run, padded-run}
 
 pub record Overruns (w g : ℕ) (noted : List ℕ) (m : ℕ) (x : Scenario) : Type 0 where
-  -- The device was made, there is room for all words, and each w samples hold at least g grants.
+  -- The device was made, the samples have one start, there is room for all words, each w samples hold at least g grants, and ERR never rises.
   pub windows : Windows w g x
+  pub no-error : any-error (configured x .capture) (trace x) ≡ false
   -- Words are noted at these samples.
   pub words : map (λ n. n .sample) (noted-by x (length (trace x))) ≡ noted
   -- At the end OVR is up, and m words are lost.
@@ -27,6 +29,7 @@ last-lost s k n l m =
     record {
       met = true;
       distance = s;
+      refusals = 0 ∷ [];
       moments = n + 3;
       samples = n;
       noted = every s (s + 2) k;
@@ -35,20 +38,22 @@ last-lost s k n l m =
       discarded = m;
       held = [];
       overrun = true;
+      error = false;
     }
 
-overruns-as : (w g : ℕ) (o : Outcome) (x : Scenario) → o .met ≡ true → o .overrun ≡ true → outcome w g x ≡ o → Overruns w g (o .noted) (o .discarded) x
+overruns-as : (w g : ℕ) (o : Outcome) (x : Scenario) → o .met ≡ true → o .error ≡ false → o .overrun ≡ true → outcome w g x ≡ o → Overruns w g (o .noted) (o .discarded) x
 unfolding outcome
-overruns-as w g o x met overrun e =
+overruns-as w g o x met calm overrun e =
     record {
       windows = windows w g x (ap (λ o. o .met) e ∙ met);
+      no-error = ap (λ o. o .error) e ∙ calm;
       words = ap (λ o. o .noted) e;
       overrun = ap (λ o. o .overrun) e ∙ overrun;
       discarded = ap (λ o. o .discarded) e;
     }
 
 overruns : (w g s k n l m : ℕ) (x : Scenario) → outcome w g x ≡ last-lost s k n l m → Overruns w g (every s (s + 2) k) m x
-overruns w g s k n l m x e = overruns-as w g (last-lost s k n l m) x refl refl e
+overruns w g s k n l m x e = overruns-as w g (last-lost s k n l m) x refl refl refl e
 
 -- Depth 4: four grants in each 17 samples, three in each 16.
 pub slow : Overruns 17 4 (every 4 6 17) 5 (one-run 4 twelve-bits (periods 4 4 13))
@@ -93,7 +98,7 @@ as-without-codes =
       depth = 4;
       set-up-calls = coded;
       calls =
-          a-run
+          a-run (one-memory 0)
           (clocked (code 0xA1) ++ clocked (1 ∷ 2 ∷ 3 ∷ 0xFF ∷ []) ++ granting (clocked (0 ∷ 4 ∷ [])) ++
           clocked (5 ∷ 6 ∷ 7 ∷ 8 ∷ 9 ∷ 10 ∷ 11 ∷ 12 ∷ 13 ∷ 14 ∷ 15 ∷ 16 ∷ 17 ∷ 18 ∷ [])) ∷
           [];
@@ -105,6 +110,7 @@ too-few =
     record {
       met = true;
       distance = 4;
+      refusals = 0 ∷ [];
       moments = 4 + 48 + 1;
       samples = 48;
       noted = 20 ∷ 24 ∷ 32 ∷ 40 ∷ 48 ∷ [];
@@ -113,11 +119,12 @@ too-few =
       discarded = 5;
       held = [];
       overrun = true;
+      error = false;
     }
 
 pub too-few-codes : Overruns 32 4 (20 ∷ 24 ∷ 32 ∷ 40 ∷ 48 ∷ []) 5 as-without-codes
 unfolding outcome
-too-few-codes = overruns-as 32 4 too-few as-without-codes refl refl refl
+too-few-codes = overruns-as 32 4 too-few as-without-codes refl refl refl refl
 
 -- Depth 1: one grant in each 5 samples, none in each 4.
 pub depth-1-slow : Overruns 5 1 (every 4 6 3) 2 (one-run 1 twelve-bits (replicate 2 false ++ periods 2 1 4))
@@ -143,7 +150,7 @@ slow-in-two =
     record {
       depth = 1;
       set-up-calls = two-buffers ∷ twelve-bits ∷ [];
-      calls = a-run-two (0x0C000 ∷ 0x1C000 ∷ pixels 0 (replicate 2 false ++ periods 2 1 4)) ∷ [];
+      calls = a-run (two-memories 0 0) (0x0C000 ∷ 0x1C000 ∷ pixels 0 (replicate 2 false ++ periods 2 1 4)) ∷ [];
       lent = alone 0 (replicate 12 0xEE);
     }
 
@@ -152,6 +159,7 @@ lost-in-two =
     record {
       met = true;
       distance = 4;
+      refusals = 0 ∷ [];
       moments = 14 + 4;
       samples = 14;
       noted = every 4 6 3;
@@ -160,11 +168,12 @@ lost-in-two =
       discarded = 2;
       held = [];
       overrun = true;
+      error = false;
     }
 
 pub depth-1-slow-two : Overruns 5 1 (every 4 6 3) 2 slow-in-two
 unfolding outcome
-depth-1-slow-two = overruns-as 5 1 lost-in-two slow-in-two refl refl refl
+depth-1-slow-two = overruns-as 5 1 lost-in-two slow-in-two refl refl refl refl
 
 -- Depth 32, on the queue: 32 grants in each 129 samples, 31 in each 128; at 8 bits 32 in each 257, 31 in each 256.
 pub depth-32-slow : queue.Starved 32 4 129 32

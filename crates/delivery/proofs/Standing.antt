@@ -24,7 +24,7 @@ use Rattle.rules.specs.RegisterCalls.{placed}
 use Rattle.board_rules.specs.declared.Mode.{Mode}
 use Rattle.board_rules.specs.declared.Mode.the-variants.{One, Two}
 use Rattle.board_rules.specs.State.{is-two}
-use Rattle.board_rules.specs.BoardRuns.{Lent, Both, lent, frame-buffer}
+use Rattle.board_rules.specs.BoardRuns.{Lent, Both, lent, memories, frame-buffer}
 use Rattle.delivery.specs.Calls.{System}
 use Rattle.delivery.specs.Noted.{Turn, Noted, words}
 use Rattle.delivery.specs.Placed.{byte-of, with-noted}
@@ -37,8 +37,9 @@ use Rattle.delivery.proofs.Chain.{Comes, opens, continues, Chain, passe
 use Rattle.delivery.proofs.Tagged.{Tagged, oldest-in, oldest-at}
 use Rattle.delivery.proofs.Landings.{First}
 
+-- A system whose memories are those that a call lends.
 abbrev pub system : Device → Mode → Both → System
-system d m l = record { board = record { device = d; mode = m }; lent = l }
+system d m l = record { board = record { device = d; mode = m }; memories = memories l }
 
 -- What is kept in a mode of the words ns that have not landed: p is the device's place, h the number of held words, l where the next word of the last landed one's frame goes, t the turn.
 abbrev pub Turning : Mode → ℕ → ℕ → Turn → List Noted → Turn → Type 0
@@ -53,8 +54,8 @@ told x u ns = record { memory = with-noted u (lent u (x .lent) .start) ns (lent 
 pub record Standing (x : Scenario) (two : Bool) (c : Capture) (y : OutputState) (t : Turn) (ns : List Noted) (s : System) : Type 0 where
   pub place : ℕ
   pub mode : Mode
-  pub memories : Both
-  pub is : s ≡ system (placed place (device c y)) mode memories
+  pub both : Both
+  pub is : s ≡ system (placed place (device c y)) mode both
   pub is-mode : is-two mode ≡ two
   pub done : List Noted
   pub rest : List Noted
@@ -62,7 +63,7 @@ pub record Standing (x : Scenario) (two : Bool) (c : Capture) (y : OutputState) 
   pub landed : y .output .counts .landed ≡ length done
   pub line : Turn
   pub turning : Turning mode place (y .output .held) line rest t
-  pub told : (u : Buffer) → lent u memories ≡ told x u done
+  pub told : (u : Buffer) → lent u both ≡ told x u done
 
 -- A sample at which ERR does not rise and a word, if one comes, finds room in the FIFO; and the oldest held word has room in the output's own frame buffer.
 pub record Fair (on : Bool) (c : Capture) (o : Out) (w : ℕ) : Type 0 where

@@ -24,7 +24,7 @@ use Rattle.rules.specs.Run.{Stepped}
 use Rattle.board_rules.specs.declared.Mode.the-variants.{One, Two}
 use Rattle.board_rules.specs.TwoBuffers.{Pair, part, with-part, sample-events, two-step}
 use Rattle.board_rules.specs.BoardRuns.{Lent, Both, lent, frame-buffer, refilled, buffers, filled, turns-of}
-use Rattle.delivery.specs.Calls.{System, relent, with-a, stepped-in, stepped}
+use Rattle.delivery.specs.Calls.{one-memory, two-memories, System, stepped}
 use Rattle.delivery.specs.Noted.{Noted, words}
 use Rattle.delivery.specs.Placed.{with-noted}
 use Rattle.delivery.specs.Delivery.{Scenario}
@@ -33,8 +33,15 @@ use Rattle.delivery.proofs.Following.{answered, leaving, place-after, b
 use Rattle.delivery.proofs.Stored.{with-noted-append}
 use Rattle.delivery.proofs.Chain.{gone}
 use Rattle.delivery.proofs.Landings.{First, landing-memory}
-use Rattle.delivery.proofs.Sampling.{packs-in, packs}
+use Rattle.delivery.proofs.Sampling.{packs}
 use Rattle.delivery.proofs.Standing.{system, told, Fair}
+
+-- The memories changed, their starts kept.
+abbrev pub relent : Both → Pair → Both
+relent l p = record { a = record { memory = p .a; start = l .a .start }; b = record { memory = p .b; start = l .b .start } }
+
+abbrev pub with-a : List ℕ → Both → Pair
+with-a memory l = record { a = memory; b = l .b .memory }
 
 module _ {on : Bool} (c : Capture) (o : Out) (w p : ℕ) (l : Both) (ns : List Noted) (f : Fair on c o w) (e : contents (o .state) ≡ words ns) where
   abbrev pub out : Option ℕ
@@ -49,8 +56,9 @@ module _ {on : Bool} (c : Capture) (o : Out) (w p : ℕ) (l : Both) (ns : List N
 
   pub one-stepped : Roomy (words ns) p (frame-buffer (l .a))
       → let s = system (placed p (device c (o .state))) One l in
-      (stepped s w ≡ one-after) × (packs s w ≡ answered (capture-sample c w .word))
-  unfolding stepped-in packs-in
+      let t = one-memory (l .a .start) in
+      (stepped t s w ≡ one-after) × (packs t s w ≡ answered (capture-sample c w .word))
+  unfolding stepped packs
   one-stepped there =
       let r = step-fits c o (words ns) p (frame-buffer (l .a)) w (f .enabled) (f .quiet) e (f .roomy (words ns) e) there (f .space) in (
         ap (λ (r : Stepped). system (r .device) One (relent l (with-a (refilled (l .a) (r .buffer)) l))) r,
@@ -71,8 +79,9 @@ module _ {on : Bool} (c : Capture) (o : Out) (w p : ℕ) (l : Both) (ns : List N
 
     pub two-stepped : Roomy (words ns) (oldest-place p k) (part (oldest-buffer k) (buffers l))
         → let s = system (placed p (device c (o .state))) (Two k) l in
-        (stepped s w ≡ two-after) × (packs s w ≡ answered (capture-sample c w .word))
-    unfolding stepped-in packs-in two-step turns-of with-place
+        let t = two-memories (l .a .start) (l .b .start) in
+        (stepped t s w ≡ two-after) × (packs t s w ≡ answered (capture-sample c w .word))
+    unfolding stepped packs two-step turns-of with-place
     two-stepped there =
         let r = step-fits c o (words ns) (oldest-place p k) (part (oldest-buffer k) (buffers l)) w (f .enabled) (f .quiet) e (f .roomy (words ns) e) there (f .space) in
         let after : Stepped → System =

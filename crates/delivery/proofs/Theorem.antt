@@ -22,9 +22,9 @@ use Rattle.board_rules.specs.BoardRuns.{Lent, Both, lent, memories}
 use Rattle.delivery.specs.Calls.{boards, System, Moment, moments}
 use Rattle.delivery.specs.Noted.{first-turn, Noted, noted-at, any-error}
 use Rattle.delivery.specs.Placed.{byte-of}
-use Rattle.delivery.specs.Delivery.{grants, Scenario, set-up, trace, configured, distance, noted-by, Room, Premises, Elsewhere, Promised, All, unsampled, all-moments, Delivery}
+use Rattle.delivery.specs.Delivery.{grants, Scenario, set-up, trace, configured, distance, noted-by, start-bytes, One-start, Room, Premises, Elsewhere, Promised, All, unsampled, all-moments, Delivery}
 use Rattle.delivery.proofs.Alls.{all-append, all-first, all-map}
-use Rattle.delivery.proofs.Inputs.{captures, inputs-take, inputs-length, count-words, calm-by-pins}
+use Rattle.delivery.proofs.Inputs.{captures, inputs-take, inputs-length, count-words, first-calm, calm-by-pins}
 use Rattle.delivery.proofs.SetUp.{fresh-ready, set-up-ready}
 use Rattle.delivery.proofs.NotedNumbers.{numbered, last-noted}
 use Rattle.delivery.proofs.Stored.{Within}
@@ -35,21 +35,24 @@ use Rattle.delivery.proofs.Standing.{told, within}
 use Rattle.delivery.proofs.Afterwards.{captures-overrun, first, two, words-of, out, lands, rooms, held, more, standing}
 
 module _ (x : Scenario) (p : Premises x) where
+  calm : (xs zs : List ℕ) → trace x ≡ xs ++ zs → any-error (first x) xs ≡ false
+  calm xs zs e = first-calm (first x) xs zs (rw e at (p .no-error))
+
   in-time : (xs zs : List ℕ) → trace x ≡ xs ++ zs → (before : List Noted) (w : Noted) (after : List Noted) → words-of x xs ≡ before ++ w ∷ after
       → w .sample + x .depth * distance x ≤ length xs → length before < out x xs .state .output .counts .landed
   in-time xs zs e before w after is h =
       let came = numbered 0 (two x) (first-turn (two x)) (first x) xs before w after is .1 (w .sample) (omega arith) in
-      let gone = lands x p xs zs e .in-time (w .sample) (rw inputs-length h) in
+      let gone = lands x (p .provided) xs zs e .in-time (w .sample) (rw inputs-length h) in
       omega (arith, rw (← inputs-take (first x) (w .sample), count-words (two x) (first-turn (two x))) at gone)
 
   -- What is answered after them: the word noted at the last.
-  last-answer : (xs zs : List ℕ) (q : Packed) → trace x ≡ xs ++ zs → Answered (set-up x) xs q → q ≡ noted-at (length xs) (words-of x xs)
+  last-answer : (xs zs : List ℕ) (q : Packed) → trace x ≡ xs ++ zs → Answered (start-bytes x) (set-up x) xs q → q ≡ noted-at (length xs) (words-of x xs)
   last-answer xs zs q e a =
       let ys = a .before in
       let w = a .last in
       let number : length (ys ++ w ∷ []) ≡ 0 + length ys + 1 = rw length-append (omega arith) in
       let whole : trace x ≡ ys ++ w ∷ zs = e ∙ rw (a .split) (append-snoc ys w zs) in
-      let says = more x p ys zs w whole (standing x p ys (w ∷ zs) whole) .1 in
+      let says = more x (p .provided) ys zs w whole (calm _ zs (whole ∙ sym (append-snoc ys w zs))) (standing x (p .provided) ys (w ∷ zs) whole (calm ys (w ∷ zs) whole)) .1 in
       rw (a .split, number, last-noted) (a .packed ∙ says)
 
   -- The memories, from those that stand.
@@ -69,30 +72,30 @@ module _ (x : Scenario) (p : Premises x) where
       rw (is u, e) (stored.stands u start (length m) before w after m refl others (rw e at inside) refl)
 
   -- A moment after them.
-  promised : (m : Moment) → Reached (set-up x) (trace x) m → Promised x m
+  promised : (m : Moment) → Reached (start-bytes x) (set-up x) (trace x) m → Promised x m
   unfolding with-place contents
   promised m r =
       let xs = r .so-far in
       let e = r .whole in
-      let g = standing x p xs (r .rest) e in
+      let g = standing x (p .provided) xs (r .rest) e (calm xs (r .rest) e) in
       let y = out x xs .state in
       let at : take (m .count) (trace x) ≡ xs = rw (e, r .count) (take-at xs (r .rest) (length xs) refl) in
       let here : m .board .device ≡ placed (g .place) (device (captures (first x) xs) y) = ap (λ (b : Board). b .device) (r .board) ∙ ap (λ (s : System). s .board .device) (g .is) in
-      let l = lands x p xs (r .rest) e in
+      let l = lands x (p .provided) xs (r .rest) e in
       let long : length (g .done) ≡ y .output .counts .landed = sym (g .landed) in
       let gone : take (y .output .counts .landed) (words-of x xs) ≡ g .done = rw (g .whole) (take-at (g .done) (g .rest) _ long) in
       let now : (u : Buffer) → part u (m .memories) ≡ told x u (g .done) .memory =
       λ u.
-      ap (part u) (r .memories ∙ ap (λ (s : System). memories (s .lent)) (g .is)) ∙ part-told u (g .memories) ∙ ap (λ (l : Lent). l .memory) (g .told u) in
+      ap (part u) (r .memories ∙ ap (λ (s : System). s .memories) (g .is)) ∙ part-told u (g .both) ∙ ap (λ (l : Lent). l .memory) (g .told u) in
       record {
-        no-overrun = rw here (captures-overrun (first x) xs (rw (set-up-ready (x .depth) (p .made) (x .set-up-calls) .no-flag)));
+        no-overrun = rw here (captures-overrun (first x) xs (rw (set-up-ready (x .depth) (p .provided .made) (x .set-up-calls) .no-flag)));
         none-discarded = rw here (l .none-discarded);
         completed = rw (at, here) (l .completed ∙ count-words (two x) (first-turn (two x)) (first x) xs);
         in-memory = λ u. rw (at, here, gone) (now u);
-        held = rw (at, here) (held x p xs (r .rest) e);
+        held = rw (at, here) (held x (p .provided) xs (r .rest) e);
         split = rw (at, here) (l .split ∙ count-words (two x) (first-turn (two x)) (first x) xs);
         in-time = rw (at, here, r .count) (in-time xs (r .rest) e);
-        stands = rw (at, here, gone) (stood (g .done) (m .memories) (all-first (Room x) (g .done) (g .rest) (rw (g .whole) at (rooms x p xs (r .rest) e))) now);
+        stands = rw (at, here, gone) (stood (g .done) (m .memories) (all-first (Room x) (g .done) (g .rest) (rw (g .whole) at (rooms x (p .provided) xs (r .rest) e))) now);
         answers = λ q o. rw (at, r .count) (last-answer xs (r .rest) q e (r .answers q o));
       }
 
@@ -101,18 +104,19 @@ pub delivery : (x : Scenario) → Delivery x
 delivery x p =
     let calls = moments (set-up x) 0 (x .calls) in
     all-append (Promised x) (map (unsampled x) (boards (fresh-of (x .depth)) (x .set-up-calls))) calls
-    (each-promised x _ _ (x .set-up-calls) (fresh-ready (x .depth) (p .made)))
-    (all-map (Reached (set-up x) (trace x)) (Promised x) (promised x p) calls (all-reached (set-up x) (x .calls)))
+    (each-promised x _ _ (x .set-up-calls) (fresh-ready (x .depth) (p .provided .made)))
+    (all-map (Reached (start-bytes x) (set-up x) (trace x)) (Promised x) (promised x p) calls (all-reached (start-bytes x) (set-up x) (x .calls) (p .provided .one-start)))
 
 -- Every d·s accepted samples hold at least d grants.
 abbrev Dense : Scenario → ℕ → Type 0
 Dense x depth = (k : ℕ) → k + depth * distance x ≤ length (trace x) → depth ≤ grants (take (depth * distance x) (drop k (trace x)))
 
--- Four is the depth where none is named (W9): room, four grants in every 4·s samples, and no ERR are all the premises.
-pub usual : (x : Scenario) → x .depth ≡ usual-depth → All (Room x) (noted-by x (length (trace x)))
+-- Four is the depth where none is named (W9): one start, room, four grants in every 4·s samples, and no ERR are all the premises.
+pub usual : (x : Scenario) → x .depth ≡ usual-depth → One-start (start-bytes x) (set-up x) (x .calls) → All (Room x) (noted-by x (length (trace x)))
     → Dense x 4 → any-error (configured x .capture) (trace x) ≡ false → All (Promised x) (all-moments x)
 unfolding bad-depth
-usual x e room granted calm = delivery x (record { made = rw e; room = room; granted = subst (Dense x) (sym e) granted; no-error = calm })
+usual x e one room granted calm =
+    delivery x (record { provided = record { made = rw e; one-start = one; room = room; granted = subst (Dense x) (sym e) granted }; no-error = calm })
 
 -- With ESS 0 the premise that ERR never rises is none (W6).
 pub without-codes : (x : Scenario) → embedded (configured x .capture .registers .cr) ≡ false → any-error (configured x .capture) (trace x) ≡ false

@@ -1,5 +1,5 @@
 -- Demand 3, as document 01's last section spells it out, over the depth d and the spacing s (W9) and both buffer modes (W2): its premises and its promises.
-use mathlib.Core.Bool.{false, cond, _&&_}
+use mathlib.Core.Bool.{Bool, true, false, cond, _&&_}
 use mathlib.Core.List.{List, [], _∷_, _++_, map}
 use mathlib.Core.Option.{none, some}
 use mathlib.Core.Path.{_≡_}
@@ -18,7 +18,7 @@ use Rattle.board_rules.specs.declared.Board.{Board}
 use Rattle.board_rules.specs.TwoBuffers.{part}
 use Rattle.board_rules.specs.BoardCalls.{fresh-of}
 use Rattle.board_rules.specs.BoardRuns.{Both, lent, frame-buffer, memories}
-use Rattle.delivery.specs.Calls.{SetUpCall, after-set-ups, boards, Call, System, samples, Moment, moments}
+use Rattle.delivery.specs.Calls.{SetUpCall, after-set-ups, boards, Starts, one-memory, two-memories, Call, starts-of, System, accepted, after-call, samples, Moment, moments}
 use Rattle.delivery.specs.Noted.{Configured, noted-set-ups, first-turn, Noted, noted, words, noted-at, any-error, spacing}
 use Rattle.delivery.specs.Placed.{byte-of, with-noted}
 
@@ -32,8 +32,8 @@ abbrev pub All : {A : Type 0} → (A → Type 0) → List A → Type 0
 All P [] = Unit {0}
 All P (x ∷ xs) = P x × All P xs
 
--- Everything that the claim is about: the depth that the device is made with (W9), the set-up calls from reset, the runs and single samples, and the memories first lent, each with its one start byte. With one buffer
--- the memory is A.
+-- Everything that the claim is about: the depth that the device is made with (W9), the set-up calls from reset, the runs and single samples, and the memories first lent, each with its one start byte: that of the
+-- accepted samples. With one buffer the memory is A.
 pub record Scenario : Type 0 where
   pub depth : ℕ
   pub set-up-calls : List SetUpCall
@@ -42,7 +42,7 @@ pub record Scenario : Type 0 where
 
 -- The bench after the set-up calls.
 abbrev pub set-up : Scenario → System
-set-up x = record { board = after-set-ups (fresh-of (x .depth)) (x .set-up-calls); lent = x .lent }
+set-up x = record { board = after-set-ups (fresh-of (x .depth)) (x .set-up-calls); memories = memories (x .lent) }
 
 -- The accepted samples of all calls.
 abbrev pub trace : Scenario → List ℕ
@@ -58,18 +58,37 @@ distance x = spacing (configured x .capture .registers .cr)
 abbrev pub noted-by : Scenario → ℕ → List Noted
 noted-by x n = noted 0 (configured x .two) (first-turn (configured x .two)) (configured x .capture) (take n (trace x))
 
+-- The start byte that its samples have, or with two buffers the start bytes (W2).
+abbrev pub starts-in : (two : Bool) → Both → Starts
+starts-in true l = two-memories (l .a .start) (l .b .start)
+starts-in false l = one-memory (l .a .start)
+
+abbrev pub start-bytes : Scenario → Starts
+start-bytes x = starts-in (configured x .two) (x .lent)
+
+-- Along some calls, each over what those before it leave: one that is accepted and brings samples has the start byte, or bytes, t. An empty run may have any, and so may a refused call.
+abbrev pub One-start : Starts → System → List Call → Type 0
+One-start t s [] = Unit {0}
+One-start t s (c ∷ cs) = (0 < length (accepted s c) → starts-of c ≡ t) × One-start t (after-call s c) cs
+
 -- A word's four bytes are there in its buffer.
 abbrev pub Room : Scenario → Noted → Type 0
 Room x w = 4 * w .turn .number + 4 ≤ length (frame-buffer (lent (w .turn .buffer) (x .lent)))
 
--- The premises.
-pub record Premises (x : Scenario) : Type 0 where
+-- The premises on device, calls, memories and grants.
+pub record Provided (x : Scenario) : Type 0 where
   -- W9: the device was made: depth 1 to 32, refusal 18 otherwise.
   pub made : bad-depth (x .depth) ≡ false
+  -- The samples of accepted calls have one start byte, or with two buffers one in each memory (W2).
+  pub one-start : One-start (start-bytes x) (set-up x) (x .calls)
   -- The memories have room for every noted word, each in its buffer (W2).
   pub room : All (Room x) (noted-by x (length (trace x)))
   -- W9: every d·s consecutive accepted samples, counted across the calls, hold at least d bus grants.
   pub granted : (k : ℕ) → k + x .depth * distance x ≤ length (trace x) → x .depth ≤ grants (take (x .depth * distance x) (drop k (trace x)))
+
+-- The premises.
+pub record Premises (x : Scenario) : Type 0 where
+  pub provided : Provided x
   -- W6: ERR rises at none of the accepted samples, as the noted words are: by the inputs alone.
   pub no-error : any-error (configured x .capture) (trace x) ≡ false
 
