@@ -17,7 +17,7 @@ use Rattle.rules.specs.declared.Capture.{Capture}
 use Rattle.rules.specs.Sample.{capture-sample, next-capture}
 use Rattle.board_rules.specs.TwoBuffers.{part}
 use Rattle.board_rules.specs.BoardRuns.{frame-buffer}
-use Rattle.delivery.specs.Calls.{one-memory, Moment}
+use Rattle.delivery.specs.Calls.{Starts, one-memory, Call, starts-of, System, after-call, Moment}
 use Rattle.delivery.specs.Noted.{Turn, first-turn, word-turn, turn-after, next-turn, Noted, note, noted, words, any-error}
 use Rattle.delivery.specs.Placed.{with-word, with-noted}
 use Rattle.delivery.specs.Delivery.{grants, Scenario, set-up, trace, configured, distance, noted-by, One-start, Room, Premises, landed-at, Promised, All, all-moments}
@@ -95,6 +95,11 @@ in-line : (x : Scenario) → configured x .two ≡ false → (k : ℕ) → In-li
 in-line x one k =
     let s = configured x .capture in
     subst (λ (two : Bool). In-line 0 (noted 0 two (first-turn two) s (take k (trace x)))) (sym one) (noted-in-line 0 0 s (take k (trace x)))
+
+-- Where all calls have one start, as they had, the premise of one start is met, whichever of them are refused.
+pub one-start-before : (t : Starts) (s : System) (cs : List Call) → All (λ c. starts-of c ≡ t) cs → One-start t s cs
+one-start-before t s [] same = tt
+one-start-before t s (c ∷ cs) same = (λ some. same .0, one-start-before t (after-call s c) cs (same .1))
 
 -- The premise of room, as it was.
 pub room-before : (x : Scenario) → configured x .two ≡ false → 4 * length (noted-by x (length (trace x))) ≤ length (x .lent .a .memory) - x .lent .a .start

@@ -20,6 +20,7 @@ pub mod OneSample
 pub mod Along
 pub mod Afterwards
 pub mod Theorem
+pub mod ErrorFlag
 pub mod AsBefore
 pub mod Outcome
 pub mod Sharp

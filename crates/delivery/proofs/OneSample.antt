@@ -34,9 +34,9 @@ use Rattle.delivery.proofs.Standing.{system, Turning, told, Standing, F
 use Rattle.delivery.proofs.Stepping.{one-stepped, two-stepped, one-told, two-told, same-buffer}
 
 -- The memories in which words have landed have the scenario's starts.
-same-starts : (two : Bool) (x : Scenario) (l : Both) (done : List Noted) → ((u : Buffer) → lent u l ≡ told x u done) → starts-in two l ≡ starts-in two (x .lent)
-same-starts true x l done so = rw (so A, so B)
-same-starts false x l done so = rw (so A)
+told-starts : (two : Bool) (x : Scenario) (l : Both) (done : List Noted) → ((u : Buffer) → lent u l ≡ told x u done) → starts-in two l ≡ starts-in two (x .lent)
+told-starts true x l done so = rw (so A, so B)
+told-starts false x l done so = rw (so A)
 
 -- What is to be shown of a sample with these starts: it keeps what stands, and answers its word.
 abbrev pub Step : Bool → Bool → Starts → Scenario → Capture → Out → Turn → ℕ → ℕ → List Noted → System → Type 0
@@ -139,5 +139,5 @@ sample-stands {on} {two} x c o t ns s i w f rooms held g =
     let long : length (words done) ≡ o .state .output .counts .landed = rw (length-map, g .landed) in
     let e : contents (o .state) ≡ words rest = held ∙ rw (g .whole, map-append) (drop-at (words done) (words rest) _ long) in
     let step = stands-in x c o t i w f done rest (rw (g .whole) at rooms) e (g .landed) two (g .mode) (g .place) (g .both) (g .line) (g .is-mode) (g .turning) (g .told) in
-    let started = subst (λ (from : Starts). Step on two from x c o t i w (done ++ rest) now) (same-starts two x (g .both) done (g .told)) step in
+    let started = subst (λ (from : Starts). Step on two from x c o t i w (done ++ rest) now) (told-starts two x (g .both) done (g .told)) step in
     subst (λ (ns : List Noted). Step on two from x c o t i w ns s) (sym (g .whole)) (subst (λ (s : System). Step on two from x c o t i w (done ++ rest) s) (sym (g .is)) started)

@@ -52,6 +52,7 @@ pub record Windows (w g : ℕ) (x : Scenario) : Type 0 where
   pub room : All (Room x) (noted-by x (length (trace x)))
   pub granted : (k : ℕ) → k + w ≤ length (trace x) → g ≤ grants (take w (drop k (trace x)))
 
+-- One start, along the calls; room; grants.
 abbrev same-starts : Starts → Starts → Bool
 same-starts (one-memory start) (one-memory start′) = eqb start start′
 same-starts (one-memory start) (two-memories start-a start-b) = false

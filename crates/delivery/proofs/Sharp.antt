@@ -1,17 +1,20 @@
--- The premise is needed at every depth (W9): with windows one sample longer, or with one grant fewer in each, a frame overruns, though there is room, with JPEG (W4) and with two buffers (W2) too. At depths 1 and 4
--- by computation over the rules, at depth 32 on the queue alone, whose theorem is over every depth and spacing. Assumes nothing.
+-- The premises are needed. That of the grants at every depth (W9): with windows one sample longer, or with one grant fewer in each, a frame overruns, though there is room, with JPEG (W4) and with two buffers (W2) too. At depths
+-- 1 and 4 by computation over the rules, at depth 32 on the queue alone, whose theorem is over every depth and spacing. That of ERR (W6): a word is lost without it. That of one start: a word stands elsewhere without it. Assumes nothing.
 use mathlib.Core.Bool.{true, false}
 use mathlib.Core.List.{List, [], _∷_, _++_, map}
 use mathlib.Core.Path.{_≡_, refl, ap, _∙_}
-use Prim.Native.Nat.{ℕ, _+_}
+use Prim.Native.Nat.{ℕ, _+_, _*_}
 use native.Mathlib.Omega.{arith}
 use lib.ListN.{length, replicate}
 use Rattle.bits.specs.Bits.{bit}
+use Rattle.buffers.specs.declared.Buffer.the-variants.{A}
+use Rattle.output.specs.WellFormed.{bad-depth}
 use Rattle.queue.proofs.Sharp as queue
 use Rattle.delivery.specs.Calls.{two-buffers, one-memory, two-memories, a-run}
 use Rattle.delivery.specs.Noted.{any-error}
-use Rattle.delivery.specs.Delivery.{Scenario, set-up, trace, configured, noted-by}
-use Rattle.delivery.proofs.Outcome.{Windows, final, Outcome, outcome, windows, twelve-bits, eight-bits, coded, clocked, code, granting, pixels, every, periods, alone, one-run, padded-run}
+use Rattle.delivery.specs.Placed.{with-word, with-noted}
+use Rattle.delivery.specs.Delivery.{Scenario, set-up, trace, configured, distance, noted-by, Provided}
+use Rattle.delivery.proofs.Outcome.{tails, Windows, has-room, has-grants, final, Outcome, outcome, windows, provided, twelve-bits, eight-bits, coded, clocked, code, granting, pixels, every, periods, alone, one-run, padded-run}
 
 pub record Overruns (w g : ℕ) (noted : List ℕ) (m : ℕ) (x : Scenario) : Type 0 where
   -- The device was made, the samples have one start, there is room for all words, each w samples hold at least g grants, and ERR never rises.
@@ -174,6 +177,55 @@ lost-in-two =
 pub depth-1-slow-two : Overruns 5 1 (every 4 6 3) 2 slow-in-two
 unfolding outcome
 depth-1-slow-two = overruns-as 5 1 lost-in-two slow-in-two refl refl refl refl
+
+-- The premise of ERR is needed (W6): all others are met, and a word is lost though there is no overrun.
+pub record Errs (m : ℕ) (x : Scenario) : Type 0 where
+  pub provided : Provided x
+  pub error : any-error (configured x .capture) (trace x) ≡ true
+  -- At the end ERR is up and OVR is not, and m words are lost.
+  pub flag : bit 2 (final (set-up x) (x .calls) .board .device .core .capture .registers .ris) ≡ true
+  pub no-overrun : bit 1 (final (set-up x) (x .calls) .board .device .core .capture .registers .ris) ≡ false
+  pub discarded : final (set-up x) (x .calls) .board .device .core .output .counts .discarded ≡ m
+
+-- A frame of one word, which is held when a line starts in the open line. The grants came before it.
+abbrev line-in-line : Scenario
+line-in-line =
+    record {
+      depth = 4;
+      set-up-calls = coded;
+      calls = a-run (one-memory 0) (clocked (code 0xA1) ++ granting (clocked (1 ∷ 2 ∷ [])) ++ clocked (3 ∷ 4 ∷ []) ++ clocked (code 0xB2)) ∷ [];
+      lent = alone 0 (replicate 4 0xEE);
+    }
+
+pub lost-by-error : Errs 1 line-in-line
+unfolding outcome
+lost-by-error = record { provided = provided 4 line-in-line refl refl; error = refl; flag = refl; no-overrun = refl; discarded = refl }
+
+-- The premise of one start is needed: all others are met, and with a second start byte the second word does not stand behind the first.
+abbrev two-starts : Scenario
+two-starts =
+    record {
+      depth = 4;
+      set-up-calls = twelve-bits ∷ [];
+      calls =
+          a-run (one-memory 0) (0x0C000 ∷ 0x1C000 ∷ pixels 0 (replicate 4 false ++ replicate 2 true)) ∷
+          a-run (one-memory 2) (pixels 6 (replicate 2 false ++ replicate 2 true)) ∷
+          [];
+      lent = alone 0 (replicate 10 0xEE);
+    }
+
+pub record Misplaced (noted landed : List ℕ) (x : Scenario) : Type 0 where
+  pub made : bad-depth (x .depth) ≡ false
+  pub room : has-room x ≡ true
+  pub granted : tails (has-grants (x .depth * distance x) (x .depth)) (trace x) ≡ true
+  pub no-error : any-error (configured x .capture) (trace x) ≡ false
+  -- What stands in A, and the noted words stored from its start on.
+  pub stands : final (set-up x) (x .calls) .memories .a ≡ landed
+  pub should-stand : with-noted A (x .lent .a .start) (noted-by x (length (trace x))) (x .lent .a .memory) ≡ noted
+
+pub with-two-starts : Misplaced (1 ∷ 0 ∷ 2 ∷ 0 ∷ 3 ∷ 0 ∷ 4 ∷ 0 ∷ 0xEE ∷ 0xEE ∷ []) (1 ∷ 0 ∷ 2 ∷ 0 ∷ 0xEE ∷ 0xEE ∷ 3 ∷ 0 ∷ 4 ∷ 0 ∷ []) two-starts
+unfolding outcome with-word with-noted
+with-two-starts = record { made = refl; room = refl; granted = refl; no-error = refl; stands = refl; should-stand = refl }
 
 -- Depth 32, on the queue: 32 grants in each 129 samples, 31 in each 128; at 8 bits 32 in each 257, 31 in each 256.
 pub depth-32-slow : queue.Starved 32 4 129 32

@@ -10,7 +10,7 @@ use Rattle.output.specs.Output.{with-held, holding, fresh-output, contents, lai
 use Rattle.board_rules.specs.declared.Board.{Board}
 use Rattle.board_rules.specs.TwoBuffers.{part}
 use Rattle.board_rules.specs.BoardRuns.{lent, memories}
-use Rattle.delivery.specs.Calls.{SetUpCall, boards}
+use Rattle.delivery.specs.Calls.{SetUpCall, boards, Moment}
 use Rattle.delivery.specs.Noted.{Configured, Noted, noted}
 use Rattle.delivery.specs.Placed.{with-noted}
 use Rattle.delivery.specs.Delivery.{Scenario, Promised, All, unsampled}
@@ -39,7 +39,12 @@ promised x c b r =
       answers = λ p e. absurd (none-some e);
     }
 
-pub each-promised : {depth : ℕ} (x : Scenario) (c : Configured) (b : Board) (cs : List SetUpCall) → Ready depth c b → All (Promised x) (map (unsampled x) (boards b cs))
+-- What holds of a board that is ready holds at each moment of the set-up.
+pub each-unsampled : {depth : ℕ} (x : Scenario) (P : Moment → Type 0) → ((c : Configured) (b : Board) → Ready depth c b → P (unsampled x b))
+    → (c : Configured) (b : Board) (cs : List SetUpCall) → Ready depth c b → All P (map (unsampled x) (boards b cs))
 unfolding boards
-each-promised x c b [] r = (promised x c b r, tt)
-each-promised x c b (s ∷ cs) r = (promised x c b r, each-promised x _ _ cs (one-ready c b s r))
+each-unsampled x P f c b [] r = (f c b r, tt)
+each-unsampled x P f c b (s ∷ cs) r = (f c b r, each-unsampled x P f _ _ cs (one-ready c b s r))
+
+pub each-promised : {depth : ℕ} (x : Scenario) (c : Configured) (b : Board) (cs : List SetUpCall) → Ready depth c b → All (Promised x) (map (unsampled x) (boards b cs))
+each-promised x = each-unsampled x (Promised x) (promised x)
