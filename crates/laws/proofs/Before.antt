@@ -4,7 +4,7 @@
 -- no word is padded, and where FRAME is due a sync blanks, so that there is no word at all and FRAME may as well rise before; no sample changes JPEG or CROP. Assumes nothing.
 use mathlib.Core.Bool.{Bool, true, false, cond, not, _&&_, _||_, false≢true}
 use mathlib.Core.List.{List, [], _∷_}
-use mathlib.Core.Option.{none}
+use mathlib.Core.Option.{Option, none, some}
 use mathlib.Core.Path.{_≡_, refl, ap, _∙_}
 use Prim.Native.Nat.{ℕ, _+_}
 use native.Mathlib.Omega.{arith}
@@ -25,7 +25,7 @@ use Rattle.rules.specs.Capture.{Captured, no-word, flagged, working-edge, enabl
 use Rattle.rules.specs.Sample.{edge, capture-sample}
 use Rattle.rules.specs.Run.{Completed, complete, after-grant, counted, step}
 use Rattle.laws.specs.Padding.{padded-at}
-use Rattle.laws.specs.Before.{ends-before-W1, frame-end-before-W1, frame-end-before-W4, at-edge-by, capture-sample-by, step-by, capture-sample-before-W6, step-before-W6, step-before-W1, step-before-W4, stepped-by}
+use Rattle.laws.specs.Before.{ends-before-W1, frame-end-before-W1, frame-end-before-W4, at-edge-by, capture-sample-by, capture-sample-before-W6, complete-before-W6, step-by, step-before-W1, step-before-W4, step-before-W6, stepped-by}
 use Rattle.laws.proofs.RegisterValues.{same-crop, same-jpeg, same-embedded, half-setup}
 use Rattle.rules.proofs.WellFormed.{CaptureOk}
 use Rattle.laws.proofs.CaptureParts.{pins-syncs-ok}
@@ -34,16 +34,26 @@ use Rattle.laws.proofs.Moved.{no-pixel, pixel-in-moved}
 use Rattle.laws.proofs.KeepsSample.{step-half}
 use Rattle.laws.proofs.Unpadded.{pads-seen, none-without-jpeg}
 
--- W6. With ESS 0 a sample goes by the sync pins, and no sample changes ESS.
+-- W6. Where ERR does not rise rule 9 is as it was.
+rule-9-before : (o : Option ℕ) (c : Captured) (x : OutputState) → c .error ≡ false → complete o c x ≡ complete-before-W6 o c x
+unfolding complete complete-before-W6
+rule-9-before none c x quiet = rw quiet
+rule-9-before (some v) c x quiet = refl
+
+-- With ESS 0 a sample goes by the sync pins, and no sample changes ESS.
+by-pins : (s : Capture) (w : ℕ) → embedded (s .registers .cr) ≡ false → capture-sample s w ≡ capture-sample-before-W6 s w
+unfolding capture-sample edge capture-sample-before-W6
+by-pins s w plain = rw plain
+
+quiet-pins : (s : Capture) (w : ℕ) → capture-sample-before-W6 s w .error ≡ false
+unfolding capture-sample-before-W6 at-edge no-word
+quiet-pins s w = either (λ (c : Captured). c .error ≡ false) (working-edge s w && enabled s) refl refl
+
 step-by-pins : (d : Device) (b : List ℕ) (w : ℕ) → embedded (d .core .capture .registers .cr) ≡ false → step d b w ≡ step-before-W6 d b w
-unfolding step after-grant step-before-W6 capture-sample edge capture-sample-before-W6
+unfolding step after-grant step-by
 step-by-pins d b w plain =
     let s = capture-of d in
-    let g = grant (bus-grant w) (enabled s) (counted (output-of d)) b in
-    ap (λ (c : Captured). let r = complete (c .word) c (g .state) in record { device = r .device; buffer = g .buffer; landing = g .landing; packed = r .packed }) (by-pins s w plain)
-  where
-    by-pins : (s : Capture) (w : ℕ) → embedded (s .registers .cr) ≡ false → capture-sample s w ≡ capture-sample-before-W6 s w
-    by-pins s w plain = rw plain
+    rw (by-pins s w plain, rule-9-before (capture-sample-before-W6 s w .word) (capture-sample-before-W6 s w) (grant (bus-grant w) (enabled s) (counted (output-of d)) b .state) (quiet-pins s w))
 
 pub with-ess-0-as-before-W6 : (d : Device) (b ws : List ℕ) → embedded (d .core .capture .registers .cr) ≡ false → stepped-by step d b ws ≡ stepped-by step-before-W6 d b ws
 unfolding stepped-by
@@ -132,16 +142,28 @@ sample-before-W4 s w y plain e = rw plain (go (working-edge s w && enabled s) e)
     go false e = refl
 
 pub step-unpadded : (d : Device) (b : List ℕ) (w : ℕ) → embedded (d .core .capture .registers .cr) ≡ false → padded-at (capture-of d) w ≡ none
-    → step d b w ≡ step-before-W4 d b w
-unfolding step after-grant step-by
+    → let s = capture-of d in
+    let g = grant (bus-grant w) (enabled s) (counted (output-of d)) b in
+    let c = now-and-then (capture-sample-by frame-end-before-W4 s w) (g .state) in
+    step d b w ≡ record { device = c .device; buffer = g .buffer; landing = g .landing; packed = c .packed }
+unfolding step after-grant
 step-unpadded d b w plain e =
     let s = capture-of d in
     let g = grant (bus-grant w) (enabled s) (counted (output-of d)) b in
     ap (λ (c : Completed). record { device = c .device; buffer = g .buffer; landing = g .landing; packed = c .packed }) (sample-before-W4 s w (g .state) plain e)
 
+quiet-before : (s : Capture) (w : ℕ) → capture-sample-by frame-end-before-W4 s w .error ≡ false
+unfolding capture-sample-by at-edge-by no-word
+quiet-before s w = either (λ (c : Captured). c .error ≡ false) (working-edge s w && enabled s) refl refl
+
 step-without-jpeg : (d : Device) (b : List ℕ) (w : ℕ) → embedded (d .core .capture .registers .cr) ≡ false → jpeg (d .core .capture .registers .cr) ≡ false
     → step d b w ≡ step-before-W4 d b w
-step-without-jpeg d b w plain e = step-unpadded d b w plain (none-without-jpeg (capture-of d) w e)
+unfolding step-by
+step-without-jpeg d b w plain e =
+    let s = capture-of d in
+    let c = capture-sample-by frame-end-before-W4 s w in
+    step-unpadded d b w plain (none-without-jpeg s w e)
+    ∙ rw (rule-9-before (c .word) c (grant (bus-grant w) (enabled s) (counted (output-of d)) b .state) (quiet-before s w))
 
 -- Such a sample leaves a well-formed state well-formed.
 pub end-before-kept : (s : Capture) (now : Syncs) → Kept s (frame-end-before-W4 s now)

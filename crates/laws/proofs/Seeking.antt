@@ -1,5 +1,5 @@
 -- After enabling, ERR and an overrun only a frame start counts, or with FSC 0xFF a frame end (W6): then `seeks` holds (`enabled-seeks`, `error-seeks`, `lost-at-once`). Enabling raises no flag
--- (`enabling-raises-no-flag`), and while none of the samples ends the search every register stays, RIS too, no word comes and the search goes on (`no-flag-until-found`).
+-- (`enabling-raises-no-flag`), and while none of the samples ends the search every register stays, RIS too, no sample answers a word, completed or lost, and the search goes on (`no-flag-until-found`).
 -- The idea: without an open frame a byte brings no pixel, and a code is only sought. Assumes nothing.
 use mathlib.Core.Bool.{Bool, true, false, cond, not, _&&_, true≢false}
 use mathlib.Core.List.{List, [], _∷_}
@@ -13,7 +13,8 @@ use Rattle.registers.specs.Control.{capture, snapshot, embedded, enable}
 use Rattle.samples.specs.Samples.{bus-grant}
 use Rattle.output.specs.declared.Fate.{Fate}
 use Rattle.output.specs.declared.Fate.the-variants.{Held, Lost}
-use Rattle.output.specs.Output.{OutputState, with-held, holding, with-counts, count-discarded, grant, offer, discard}
+use Rattle.output.specs.Output.{OutputState, with-held, holding, with-counts, count-sample, count-discarded, grant, offer, discard}
+use Rattle.output.proofs.Untouched.{Untouched, grant-untouched}
 use Rattle.codes.specs.declared.Waiting.the-variants.{Zero}
 use Rattle.codes.specs.declared.Meaning.{Meaning}
 use Rattle.codes.specs.declared.Meaning.the-variants.{FrameEnd, FrameStart, LineEnd, LineStart, Unmatched}
@@ -30,7 +31,7 @@ use Rattle.rules.specs.Codes.{seeks, arrived, byte-in, taken-out, frame-opens, 
 use Rattle.rules.specs.Sample.{byte-of, edge, capture-sample}
 use Rattle.rules.specs.Run.{nothing, lost, lose-frame, after-word, complete, after-grant, counted, step, steps}
 use Rattle.rules.specs.RegisterCalls.{enabling, disabling, switch-enable, capture-rises, switch-capture, write-control}
-use Rattle.laws.specs.Seeking.{counts, found-by, found-at, none-found, Emptied, Runs-in, Runs}
+use Rattle.laws.specs.Seeking.{counts, found-by, found-at, none-found, NoWords, SearchGoesOn, Emptied, Runs-in, Runs}
 use Rattle.laws.proofs.Errors.{no-word-in-error, fallen-in-error}
 use Rattle.laws.proofs.FrameCodes.{each-same}
 use Rattle.laws.proofs.Pace.{at-code-word}
@@ -131,12 +132,17 @@ quiet-complete (some v) c x e quiet = let z : _≡_ {A = ℕ} 0 1 = cc in absurd
 
 module _ (d : Device) (b : List ℕ) (w : ℕ) (coded : embedded (d .core .capture .registers .cr) ≡ true) (seeking : seeks (d .core .capture) ≡ true) where
   step-searched : Searched (d .core .capture) (found-at (d .core .capture) w) (no-word (step d b w .device .core .capture)) × (step d b w .packed ≡ nothing)
+      × Untouched (counted (output-of d)) (output-of (step d b w .device))
   unfolding step after-grant no-word
   step-searched =
       let s = d .core .capture in
       let h = sample-searched s w coded seeking in
-      let (same, none-packed, left) = quiet-complete (capture-sample s w .word) (capture-sample s w) (grant (bus-grant w) (enabled s) (counted (output-of d)) b .state) (h .word) (h .due) in
-      (record { registers = rw same (h .registers); word = refl; due = refl; error = refl; on = λ e. rw same (h .on e) }, none-packed)
+      let g = grant (bus-grant w) (enabled s) (counted (output-of d)) b in
+      let (same, none-packed, left) = quiet-complete (capture-sample s w .word) (capture-sample s w) (g .state) (h .word) (h .due) in (
+        record { registers = rw same (h .registers); word = refl; due = refl; error = refl; on = λ e. rw same (h .on e) },
+        none-packed,
+        rw (left, h .error) (grant-untouched (bus-grant w) (enabled s) (counted (output-of d)) b),
+      )
 
   -- One sample.
   pub seeking-raises-no-flag : (step d b w .device .core .capture .registers ≡ d .core .capture .registers) × (step d b w .packed ≡ nothing)
@@ -147,16 +153,28 @@ module _ (d : Device) (b : List ℕ) (w : ℕ) (coded : embedded (d .core .captu
   unfolding no-word
   seeks-on e = step-searched .0 .on e
 
+  seeking-counts : (step d b w .device .core .output .counts .completed ≡ d .core .output .counts .completed)
+      × (step d b w .device .core .output .counts .discarded ≡ d .core .output .counts .discarded)
+  unfolding counted count-sample with-counts
+  seeking-counts = let left = step-searched .2 in (left .completed, left .discarded)
+
 -- Every list of samples that does not end the search.
 pub no-flag-until-found : (d : Device) (b ws : List ℕ) → embedded (d .core .capture .registers .cr) ≡ true → seeks (d .core .capture) ≡ true → none-found d b ws ≡ true
-    → (steps d b ws .device .core .capture .registers ≡ d .core .capture .registers) × (seeks (steps d b ws .device .core .capture) ≡ true)
-unfolding steps none-found
-no-flag-until-found d b [] coded seeking unfound = (refl, seeking)
+    → SearchGoesOn d b ws
+unfolding steps none-found NoWords
+no-flag-until-found d b [] coded seeking unfound = record { seeks = seeking; registers = refl; no-words = tt; completed = refl; discarded = refl }
 no-flag-until-found d b (w ∷ ws) coded seeking unfound =
     let (here, later) = and-true (not (found-at (d .core .capture) w)) _ unfound in
-    let same = seeking-raises-no-flag d b w coded seeking .0 in
-    let (rest, on) = no-flag-until-found (step d b w .device) (step d b w .buffer) ws (rw same coded) (seeks-on d b w coded seeking (not-true _ here)) later in
-    (rest ∙ same, on)
+    let (same, silent) = seeking-raises-no-flag d b w coded seeking in
+    let (completed, discarded) = seeking-counts d b w coded seeking in
+    let rest = no-flag-until-found (step d b w .device) (step d b w .buffer) ws (rw same coded) (seeks-on d b w coded seeking (not-true _ here)) later in
+    record {
+      seeks = rest .seeks;
+      registers = rest .registers ∙ same;
+      no-words = (silent, rest .no-words);
+      completed = rest .completed ∙ completed;
+      discarded = rest .discarded ∙ discarded;
+    }
 
 -- ERR.
 pub error-seeks : (d : Device) (b : List ℕ) (w : ℕ) → capture-sample (d .core .capture) w .error ≡ true → Emptied (step d b w .device)

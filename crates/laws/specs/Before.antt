@@ -1,18 +1,19 @@
 -- Rules as they stood before a request, for the laws that say what it leaves as it was.
 use mathlib.Core.Bool.{false, cond, _&&_}
 use mathlib.Core.List.{List, [], _∷_}
+use mathlib.Core.Option.{Option, none, some}
 use Prim.Native.Nat.{ℕ}
 use Rattle.registers.specs.Control.{snapshot}
 use Rattle.samples.specs.Samples.{pixel-data, bus-grant}
-use Rattle.output.specs.Output.{grant}
+use Rattle.output.specs.Output.{OutputState, grant, offer}
 use Rattle.rules.specs.declared.Syncs.{Syncs}
 use Rattle.rules.specs.declared.Frame.{Frame}
 use Rattle.rules.specs.declared.Frame.the-variants.{Closed, Open}
 use Rattle.rules.specs.declared.Capture.{Capture}
 use Rattle.rules.specs.declared.Device.{Device}
-use Rattle.rules.specs.State.{capture-of, output-of, with-syncs, raise, clear-capture, close-frame}
-use Rattle.rules.specs.Capture.{Captured, no-word, working-edge, enabled, remember-pins, blanking, sync-flags, frame-due, frame-closes, frame-start, pixel-edge, at-edge}
-use Rattle.rules.specs.Run.{complete, Stepped, counted}
+use Rattle.rules.specs.State.{device, capture-of, output-of, with-syncs, raise, clear-capture, close-frame}
+use Rattle.rules.specs.Capture.{Captured, no-word, flagged, working-edge, enabled, remember-pins, blanking, sync-flags, frame-due, frame-closes, frame-start, pixel-edge, at-edge}
+use Rattle.rules.specs.Run.{nothing, Completed, after-word, Stepped, counted}
 
 -- Before W1, rule 4 in document 01's words: an open frame closes when VSYNC blanks. A partial word is dropped. If the frame was one of those taken, FRAME rises and, with CM 1,
 -- CAPTURE becomes 0.
@@ -40,33 +41,34 @@ capture-sample-by frame-end s w =
     (at-edge-by frame-end (remember-pins w s) (blanking s w) (pixel-data w))
     (no-word (remember-pins w s))
 
--- The nine rules with them, as `step` has them.
-unfoldable pub step-by : (Capture → Syncs → Capture) → Device → List ℕ → ℕ → Stepped
-step-by frame-end d buffer w =
-    let s = capture-of d in
-    let g = grant (bus-grant w) (enabled s) (counted (output-of d)) buffer in
-    let c = complete (capture-sample-by frame-end s w .word) (capture-sample-by frame-end s w) (g .state) in
-    record { device = c .device; buffer = g .buffer; landing = g .landing; packed = c .packed }
-
--- Before W6: the rules 2 to 8 by the sync pins alone, whatever ESS is; and the nine rules with them.
+-- Before W6: the rules 2 to 8 by the sync pins alone, whatever ESS is.
 unfoldable pub capture-sample-before-W6 : Capture → ℕ → Captured
 capture-sample-before-W6 s w =
     cond (working-edge s w && enabled s)
     (at-edge (remember-pins w s) (blanking s w) (pixel-data w))
     (no-word (remember-pins w s))
 
-unfoldable pub step-before-W6 : Device → List ℕ → ℕ → Stepped
-step-before-W6 d buffer w =
+-- Before W6, rule 9: ERR never rises, and where no full word came nothing is discarded.
+unfoldable pub complete-before-W6 : Option ℕ → Captured → OutputState → Completed
+complete-before-W6 none c x = record { device = device (flagged c) x; packed = nothing }
+complete-before-W6 (some v) c x = after-word (offer v x .fate) v c (offer v x .state)
+
+-- The nine rules with such rules 2 to 8, and with that rule 9.
+unfoldable pub step-by : (Capture → ℕ → Captured) → Device → List ℕ → ℕ → Stepped
+step-by captures d buffer w =
     let s = capture-of d in
     let g = grant (bus-grant w) (enabled s) (counted (output-of d)) buffer in
-    let c = complete (capture-sample-before-W6 s w .word) (capture-sample-before-W6 s w) (g .state) in
+    let c = complete-before-W6 (captures s w .word) (captures s w) (g .state) in
     record { device = c .device; buffer = g .buffer; landing = g .landing; packed = c .packed }
 
 abbrev pub step-before-W1 : Device → List ℕ → ℕ → Stepped
-step-before-W1 = step-by frame-end-before-W1
+step-before-W1 = step-by (capture-sample-by frame-end-before-W1)
 
 abbrev pub step-before-W4 : Device → List ℕ → ℕ → Stepped
-step-before-W4 = step-by frame-end-before-W4
+step-before-W4 = step-by (capture-sample-by frame-end-before-W4)
+
+abbrev pub step-before-W6 : Device → List ℕ → ℕ → Stepped
+step-before-W6 = step-by capture-sample-before-W6
 
 -- What some samples make of device and frame buffer one after the other, by one rule or another for a sample: both, and the answers, after each.
 unfoldable pub stepped-by : (Device → List ℕ → ℕ → Stepped) → Device → List ℕ → List ℕ → List Stepped

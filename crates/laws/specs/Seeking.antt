@@ -1,5 +1,5 @@
--- While only a frame start counts (W6, `seeks`): whether a sample ends the search, by a frame start code or, with FSC 0xFF, a frame end code; that none of some samples does; and what is left
--- after ERR or an overrun.
+-- While only a frame start counts (W6, `seeks`): whether a sample ends the search, by a frame start code or, with FSC 0xFF, a frame end code; that none of some samples does, and what they
+-- leave then; and what is left after ERR or an overrun.
 use mathlib.Core.Bool.{Bool, true, false, not, _&&_}
 use mathlib.Core.List.{List, [], _∷_}
 use mathlib.Core.Path.{_≡_}
@@ -16,7 +16,7 @@ use Rattle.rules.specs.State.{no-partial, capture-of}
 use Rattle.rules.specs.Capture.{working-edge, enabled}
 use Rattle.rules.specs.Codes.{seeks}
 use Rattle.rules.specs.Sample.{byte-of}
-use Rattle.rules.specs.Run.{step}
+use Rattle.rules.specs.Run.{nothing, step, steps}
 
 unfoldable pub counts : Meaning → ℕ → Bool
 counts FrameEnd escr = by-line-starts escr
@@ -34,6 +34,19 @@ found-at s w = (working-edge s w && enabled s) && found-by s (byte-of w)
 unfoldable pub none-found : Device → List ℕ → List ℕ → Bool
 none-found d buffer [] = true
 none-found d buffer (w ∷ ws) = not (found-at (capture-of d) w) && none-found (step d buffer w .device) (step d buffer w .buffer) ws
+
+-- No sample completes a word or loses one.
+unfoldable pub NoWords : Device → List ℕ → List ℕ → Type 0
+NoWords d buffer [] = Unit {0}
+NoWords d buffer (w ∷ ws) = (step d buffer w .packed ≡ nothing) × NoWords (step d buffer w .device) (step d buffer w .buffer) ws
+
+-- The search goes on after some samples: each register is as it was, RIS too, no word has come, and none has been discarded.
+pub record SearchGoesOn (d : Device) (buffer samples : List ℕ) : Type 0 where
+  pub seeks : seeks (steps d buffer samples .device .core .capture) ≡ true
+  pub registers : steps d buffer samples .device .core .capture .registers ≡ d .core .capture .registers
+  pub no-words : NoWords d buffer samples
+  pub completed : steps d buffer samples .device .core .output .counts .completed ≡ d .core .output .counts .completed
+  pub discarded : steps d buffer samples .device .core .output .counts .discarded ≡ d .core .output .counts .discarded
 
 -- No frame is open, no word held or partial, and only a frame start counts.
 pub record Emptied (d : Device) : Type 0 where

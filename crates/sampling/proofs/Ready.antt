@@ -24,7 +24,7 @@ use Rattle.rules.proofs.WellFormed.{CaptureOk, WellFormed, facts}
 use Rattle.full_word.specs.Notes.{note-landing, note-packing}
 use Rattle.sampling.specs.Notes.{Noted, noted-step}
 use Rattle.laws.specs.Padding.{padded-at}
-use Rattle.laws.specs.Before.{frame-end-before-W4, capture-sample-by, step-by}
+use Rattle.laws.specs.Before.{frame-end-before-W4, capture-sample-by}
 use Rattle.laws.proofs.RegisterValues.{uncropped}
 use Rattle.laws.proofs.CaptureParts.{pins-syncs-ok}
 use Rattle.laws.proofs.Sampled.{sample-ok}
@@ -71,7 +71,7 @@ pub stepped : (d : Device) (b l v : List ℕ) (w : ℕ) {g : Granted} {c : Captu
     → _≡_ {A = Noted}
     (record { device = r .device; buffer = g .buffer; landings = note-landing (g .landing) l; words = note-packing (r .packed) v })
     (noted-step (record { device = d; buffer = b; landings = l; words = v }) w)
-unfolding noted-step step-by
+unfolding noted-step
 stepped d b l v w (plain, unpadded) granted captured after = rw (step-unpadded d b w plain unpadded, after, captured, granted)
 
 -- A sample that pads one: the same with the padded word.
