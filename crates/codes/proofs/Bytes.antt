@@ -1,4 +1,4 @@
--- Byte by byte, the same events come as from the cut of the whole list, and the same bytes wait; no byte is lost or doubled.
+-- Byte by byte, the same pieces come as from the cut of the whole list, and the same bytes wait; no byte is lost or doubled.
 -- The idea: what waits stands in front of the bytes that come, and one byte more is one step of the cut. Assumes nothing.
 use mathlib.Core.Bool.{Bool, true, false, cond, true≢false}
 use mathlib.Core.List.{List, [], _∷_, _++_, map, append-assoc}
@@ -10,7 +10,7 @@ use lib.ListN.{length}
 use borrow.Author.Tests.{eqb-true}
 use Rattle.codes.specs.declared.Waiting.{Waiting}
 use Rattle.codes.specs.declared.Waiting.the-variants.{Zero, One, Two, Three}
-use Rattle.codes.specs.Bytes.{waiting-bytes, waiting-count, is-code, waiting-after, released, Event, datum, code, events-of, before, by-bytes, cut, event-bytes, bytes-of}
+use Rattle.codes.specs.Bytes.{waiting-bytes, waiting-count, is-code, waiting-after, released, Piece, a-datum, a-code, pieces-of, in-front, by-bytes, cut, piece-bytes, bytes-of}
 
 -- A byte is 0, FF or another one.
 by-byte : (P : Bool → Bool → Type 0) (x : ℕ) → (x ≡ 0 → P true false) → (x ≡ 0xFF → P false true) → (eqb x 0 ≡ false → eqb x 0xFF ≡ false → P false false)
@@ -41,32 +41,32 @@ few-released One x = omega (arith, one-byte-count One x refl)
 few-released Two x = omega (arith, one-byte-count Two x refl)
 few-released Three x = omega arith
 
-pub one-byte : (k : Waiting) (x : ℕ) → waiting-bytes k ++ (x ∷ []) ≡ bytes-of (events-of k x) ++ waiting-bytes (waiting-after k x)
-unfolding released waiting-after events-of bytes-of
+pub one-byte : (k : Waiting) (x : ℕ) → waiting-bytes k ++ (x ∷ []) ≡ bytes-of (pieces-of k x) ++ waiting-bytes (waiting-after k x)
+unfolding released waiting-after pieces-of bytes-of
 one-byte Zero x =
-    by-byte (λ a b. x ∷ [] ≡ bytes-of (map datum (cond b [] (x ∷ []))) ++ waiting-bytes (cond b One Zero)) x
+    by-byte (λ a b. x ∷ [] ≡ bytes-of (map a-datum (cond b [] (x ∷ []))) ++ waiting-bytes (cond b One Zero)) x
     (λ z. refl)
     (λ z. ap (λ y. y ∷ []) z)
     (λ z y. refl)
 one-byte One x =
-    by-byte (λ a b. 0xFF ∷ x ∷ [] ≡ bytes-of (map datum (cond a [] (cond b (0xFF ∷ []) (0xFF ∷ x ∷ [])))) ++ waiting-bytes (cond a Two (cond b One Zero))) x
+    by-byte (λ a b. 0xFF ∷ x ∷ [] ≡ bytes-of (map a-datum (cond a [] (cond b (0xFF ∷ []) (0xFF ∷ x ∷ [])))) ++ waiting-bytes (cond a Two (cond b One Zero))) x
     (λ z. ap (λ y. 0xFF ∷ y ∷ []) z)
     (λ z. ap (λ y. 0xFF ∷ y ∷ []) z)
     (λ z y. refl)
 one-byte Two x =
-    by-byte (λ a b. 0xFF ∷ 0 ∷ x ∷ [] ≡ bytes-of (map datum (cond a [] (cond b (0xFF ∷ 0 ∷ []) (0xFF ∷ 0 ∷ x ∷ [])))) ++ waiting-bytes (cond a Three (cond b One Zero))) x
+    by-byte (λ a b. 0xFF ∷ 0 ∷ x ∷ [] ≡ bytes-of (map a-datum (cond a [] (cond b (0xFF ∷ 0 ∷ []) (0xFF ∷ 0 ∷ x ∷ [])))) ++ waiting-bytes (cond a Three (cond b One Zero))) x
     (λ z. ap (λ y. 0xFF ∷ 0 ∷ y ∷ []) z)
     (λ z. ap (λ y. 0xFF ∷ 0 ∷ y ∷ []) z)
     (λ z y. refl)
 one-byte Three x = refl
 
-bytes-append : (es fs : List Event) → bytes-of (es ++ fs) ≡ bytes-of es ++ bytes-of fs
+bytes-append : (ps qs : List Piece) → bytes-of (ps ++ qs) ≡ bytes-of ps ++ bytes-of qs
 unfolding bytes-of
-bytes-append [] fs = refl
-bytes-append (e ∷ es) fs = rw (bytes-append es fs) (sym (append-assoc (event-bytes e) (bytes-of es) (bytes-of fs)))
+bytes-append [] qs = refl
+bytes-append (p ∷ ps) qs = rw (bytes-append ps qs) (sym (append-assoc (piece-bytes p) (bytes-of ps) (bytes-of qs)))
 
 -- Many bytes, where some wait: none is lost or doubled.
-pub nothing-lost-after : (k : Waiting) (bs : List ℕ) → bytes-of (by-bytes k bs .events) ++ waiting-bytes (by-bytes k bs .waits) ≡ waiting-bytes k ++ bs
+pub nothing-lost-after : (k : Waiting) (bs : List ℕ) → bytes-of (by-bytes k bs .pieces) ++ waiting-bytes (by-bytes k bs .waits) ≡ waiting-bytes k ++ bs
 unfolding by-bytes bytes-of
 nothing-lost-after Zero [] = refl
 nothing-lost-after One [] = refl
@@ -74,57 +74,57 @@ nothing-lost-after Two [] = refl
 nothing-lost-after Three [] = refl
 nothing-lost-after k (x ∷ xs) =
     rw (
-      bytes-append (events-of k x) (by-bytes (waiting-after k x) xs .events),
-      append-assoc (bytes-of (events-of k x)) (bytes-of (by-bytes (waiting-after k x) xs .events)) (waiting-bytes (by-bytes (waiting-after k x) xs .waits)),
+      bytes-append (pieces-of k x) (by-bytes (waiting-after k x) xs .pieces),
+      append-assoc (bytes-of (pieces-of k x)) (bytes-of (by-bytes (waiting-after k x) xs .pieces)) (waiting-bytes (by-bytes (waiting-after k x) xs .waits)),
       nothing-lost-after (waiting-after k x) xs,
-      ← append-assoc (bytes-of (events-of k x)) (waiting-bytes (waiting-after k x)) xs,
+      ← append-assoc (bytes-of (pieces-of k x)) (waiting-bytes (waiting-after k x)) xs,
       ← one-byte k x,
     )
     (append-assoc (waiting-bytes k) (x ∷ []) xs)
 
 -- Some bytes, and then others.
-pub by-bytes-append : (k : Waiting) (xs ys : List ℕ) → by-bytes k (xs ++ ys) ≡ before (by-bytes k xs .events) (by-bytes (by-bytes k xs .waits) ys)
+pub by-bytes-append : (k : Waiting) (xs ys : List ℕ) → by-bytes k (xs ++ ys) ≡ in-front (by-bytes k xs .pieces) (by-bytes (by-bytes k xs .waits) ys)
 unfolding by-bytes
 by-bytes-append k [] ys = refl
 by-bytes-append k (x ∷ xs) ys =
-    rw (by-bytes-append (waiting-after k x) xs ys, append-assoc (events-of k x) (by-bytes (waiting-after k x) xs .events) (by-bytes (by-bytes (waiting-after k x) xs .waits) ys .events))
+    rw (by-bytes-append (waiting-after k x) xs ys, append-assoc (pieces-of k x) (by-bytes (waiting-after k x) xs .pieces) (by-bytes (by-bytes (waiting-after k x) xs .waits) ys .pieces))
 
 -- A first byte that begins no code, and two or three that begin none.
-not-one : (a : ℕ) (bs : List ℕ) → eqb a 0xFF ≡ false → cut (a ∷ bs) ≡ before (datum a ∷ []) (cut bs)
+not-one : (a : ℕ) (bs : List ℕ) → eqb a 0xFF ≡ false → cut (a ∷ bs) ≡ in-front (a-datum a ∷ []) (cut bs)
 unfolding cut
 not-one a [] e = rw e
 not-one a (b ∷ []) e = rw e
 not-one a (b ∷ c ∷ []) e = rw e
 not-one a (b ∷ c ∷ d ∷ bs) e = rw e
 
-not-two : (b : ℕ) (bs : List ℕ) → eqb b 0 ≡ false → cut (0xFF ∷ b ∷ bs) ≡ before (datum 0xFF ∷ []) (cut (b ∷ bs))
+not-two : (b : ℕ) (bs : List ℕ) → eqb b 0 ≡ false → cut (0xFF ∷ b ∷ bs) ≡ in-front (a-datum 0xFF ∷ []) (cut (b ∷ bs))
 unfolding cut
 not-two b [] e = rw e
 not-two b (c ∷ []) e = rw e
 not-two b (c ∷ d ∷ bs) e = rw e
 
-not-three : (c : ℕ) (bs : List ℕ) → eqb c 0 ≡ false → cut (0xFF ∷ 0 ∷ c ∷ bs) ≡ before (datum 0xFF ∷ []) (cut (0 ∷ c ∷ bs))
+not-three : (c : ℕ) (bs : List ℕ) → eqb c 0 ≡ false → cut (0xFF ∷ 0 ∷ c ∷ bs) ≡ in-front (a-datum 0xFF ∷ []) (cut (0 ∷ c ∷ bs))
 unfolding cut
 not-three c [] e = rw e
 not-three c (d ∷ bs) e = rw e
 
 -- One byte more is one step of the cut.
-cut-step : (k : Waiting) (x : ℕ) (xs : List ℕ) → cut (waiting-bytes k ++ (x ∷ xs)) ≡ before (events-of k x) (cut (waiting-bytes (waiting-after k x) ++ xs))
-unfolding released waiting-after events-of
+cut-step : (k : Waiting) (x : ℕ) (xs : List ℕ) → cut (waiting-bytes k ++ (x ∷ xs)) ≡ in-front (pieces-of k x) (cut (waiting-bytes (waiting-after k x) ++ xs))
+unfolding released waiting-after pieces-of
 cut-step Zero x xs =
-    by-byte (λ a b. cut (x ∷ xs) ≡ before (map datum (cond b [] (x ∷ []))) (cut (waiting-bytes (cond b One Zero) ++ xs))) x
+    by-byte (λ a b. cut (x ∷ xs) ≡ in-front (map a-datum (cond b [] (x ∷ []))) (cut (waiting-bytes (cond b One Zero) ++ xs))) x
     (λ z. not-one x xs (rw z))
     (λ z. ap (λ y. cut (y ∷ xs)) z)
     (λ z y. not-one x xs y)
 cut-step One x xs =
-    by-byte (λ a b. cut (0xFF ∷ x ∷ xs) ≡ before (map datum (cond a [] (cond b (0xFF ∷ []) (0xFF ∷ x ∷ [])))) (cut (waiting-bytes (cond a Two (cond b One Zero)) ++ xs))) x
+    by-byte (λ a b. cut (0xFF ∷ x ∷ xs) ≡ in-front (map a-datum (cond a [] (cond b (0xFF ∷ []) (0xFF ∷ x ∷ [])))) (cut (waiting-bytes (cond a Two (cond b One Zero)) ++ xs))) x
     (λ z. ap (λ y. cut (0xFF ∷ y ∷ xs)) z)
     (λ z. rw z (not-two 0xFF xs refl))
     (λ z y. rw (not-two x xs z, not-one x xs y))
 cut-step Two x xs =
-    by-byte (λ a b. cut (0xFF ∷ 0 ∷ x ∷ xs) ≡ before (map datum (cond a [] (cond b (0xFF ∷ 0 ∷ []) (0xFF ∷ 0 ∷ x ∷ [])))) (cut (waiting-bytes (cond a Three (cond b One Zero)) ++ xs))) x
+    by-byte (λ a b. cut (0xFF ∷ 0 ∷ x ∷ xs) ≡ in-front (map a-datum (cond a [] (cond b (0xFF ∷ 0 ∷ []) (0xFF ∷ 0 ∷ x ∷ [])))) (cut (waiting-bytes (cond a Three (cond b One Zero)) ++ xs))) x
     (λ z. ap (λ y. cut (0xFF ∷ 0 ∷ y ∷ xs)) z)
-    (λ z. rw (z, not-three 0xFF xs refl) (ap (before (datum 0xFF ∷ [])) (not-one 0 (0xFF ∷ xs) refl)))
+    (λ z. rw (z, not-three 0xFF xs refl) (ap (in-front (a-datum 0xFF ∷ [])) (not-one 0 (0xFF ∷ xs) refl)))
     (λ z y. rw (not-three x xs z, not-one 0 (x ∷ xs) refl, not-one x xs y))
 cut-step Three x xs = unfold cut in refl
 
@@ -136,17 +136,17 @@ whole-after Two [] = refl
 whole-after Three [] = refl
 whole-after k (x ∷ xs) = rw (whole-after (waiting-after k x) xs) (sym (cut-step k x xs))
 
--- The bytes of a list give, one by one, the events of its cut, and leave the same bytes waiting.
+-- The bytes of a list give, one by one, the pieces of its cut, and leave the same bytes waiting.
 pub whole : (bs : List ℕ) → by-bytes Zero bs ≡ cut bs
 whole bs = whole-after Zero bs
 
--- The bytes of the events, each code as FF 00 00 XY, and the bytes that wait are the list.
-pub nothing-lost : (bs : List ℕ) → bytes-of (cut bs .events) ++ waiting-bytes (cut bs .waits) ≡ bs
+-- The bytes of the pieces, each code as FF 00 00 XY, and the bytes that wait are the list.
+pub nothing-lost : (bs : List ℕ) → bytes-of (cut bs .pieces) ++ waiting-bytes (cut bs .waits) ≡ bs
 nothing-lost bs = rw (← whole bs) (nothing-lost-after Zero bs)
 
 -- FF 00 00 FF 00 00 AB: the XY FF begins no code. FF FF 00 00 10: the second FF does. FF 00 FF 00: the first two are data, and FF 00 waits.
-pub cases : (cut (0xFF ∷ 0 ∷ 0 ∷ 0xFF ∷ 0 ∷ 0 ∷ 0xAB ∷ []) ≡ record { events = code 0xFF ∷ datum 0 ∷ datum 0 ∷ datum 0xAB ∷ []; waits = Zero })
-    × (cut (0xFF ∷ 0xFF ∷ 0 ∷ 0 ∷ 0x10 ∷ []) ≡ record { events = datum 0xFF ∷ code 0x10 ∷ []; waits = Zero })
-    × (cut (0xFF ∷ 0 ∷ 0xFF ∷ 0 ∷ []) ≡ record { events = datum 0xFF ∷ datum 0 ∷ []; waits = Two })
+pub cases : (cut (0xFF ∷ 0 ∷ 0 ∷ 0xFF ∷ 0 ∷ 0 ∷ 0xAB ∷ []) ≡ record { pieces = a-code 0xFF ∷ a-datum 0 ∷ a-datum 0 ∷ a-datum 0xAB ∷ []; waits = Zero })
+    × (cut (0xFF ∷ 0xFF ∷ 0 ∷ 0 ∷ 0x10 ∷ []) ≡ record { pieces = a-datum 0xFF ∷ a-code 0x10 ∷ []; waits = Zero })
+    × (cut (0xFF ∷ 0 ∷ 0xFF ∷ 0 ∷ []) ≡ record { pieces = a-datum 0xFF ∷ a-datum 0 ∷ []; waits = Two })
 unfolding cut
 cases = (refl, refl, refl)

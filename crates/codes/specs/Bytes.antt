@@ -41,42 +41,42 @@ released One x = cond (eqb x 0) [] (cond (eqb x 0xFF) (0xFF ∷ []) (0xFF ∷ x 
 released Two x = cond (eqb x 0) [] (cond (eqb x 0xFF) (0xFF ∷ 0 ∷ []) (0xFF ∷ 0 ∷ x ∷ []))
 released Three x = []
 
--- A datum, or the XY of a code.
-pub data Event : Type 0 where
-  datum : ℕ → Event
-  code : ℕ → Event
+-- A piece of the stream: a datum, or a code with its XY.
+pub data Piece : Type 0 where
+  a-datum : ℕ → Piece
+  a-code : ℕ → Piece
 
 -- What a byte brings: the data that it releases, or the code that it ends.
-unfoldable pub events-of : Waiting → ℕ → List Event
-events-of k x = cond (is-code k) (code x ∷ []) (map datum (released k x))
+unfoldable pub pieces-of : Waiting → ℕ → List Piece
+pieces-of k x = cond (is-code k) (a-code x ∷ []) (map a-datum (released k x))
 
 -- A list of bytes cut up: its codes and data, and the bytes at its end that still wait.
 pub record Cut : Type 0 where
-  pub events : List Event
+  pub pieces : List Piece
   pub waits : Waiting
 
--- Some events, and then those of a cut.
-abbrev pub before : List Event → Cut → Cut
-before es c = record { events = es ++ c .events; waits = c .waits }
+-- Some pieces, and then those of a cut.
+abbrev pub in-front : List Piece → Cut → Cut
+in-front ps c = record { pieces = ps ++ c .pieces; waits = c .waits }
 
 -- Byte by byte, where some wait.
 unfoldable pub by-bytes : Waiting → List ℕ → Cut
-by-bytes k [] = record { events = []; waits = k }
-by-bytes k (x ∷ xs) = before (events-of k x) (by-bytes (waiting-after k x) xs)
+by-bytes k [] = record { pieces = []; waits = k }
+by-bytes k (x ∷ xs) = in-front (pieces-of k x) (by-bytes (waiting-after k x) xs)
 
 -- The whole list, from the left: FF 00 00 XY is a code; FF, FF 00 or FF 00 00 at the end wait; otherwise the first byte is a datum.
 unfoldable pub cut : List ℕ → Cut
-cut [] = record { events = []; waits = Zero }
-cut (a ∷ []) = cond (eqb a 0xFF) (record { events = []; waits = One }) (before (datum a ∷ []) (cut []))
-cut (a ∷ b ∷ []) = cond (eqb a 0xFF && eqb b 0) (record { events = []; waits = Two }) (before (datum a ∷ []) (cut (b ∷ [])))
-cut (a ∷ b ∷ c ∷ []) = cond (eqb a 0xFF && eqb b 0 && eqb c 0) (record { events = []; waits = Three }) (before (datum a ∷ []) (cut (b ∷ c ∷ [])))
-cut (a ∷ b ∷ c ∷ xy ∷ bs) = cond (eqb a 0xFF && eqb b 0 && eqb c 0) (before (code xy ∷ []) (cut bs)) (before (datum a ∷ []) (cut (b ∷ c ∷ xy ∷ bs)))
+cut [] = record { pieces = []; waits = Zero }
+cut (a ∷ []) = cond (eqb a 0xFF) (record { pieces = []; waits = One }) (in-front (a-datum a ∷ []) (cut []))
+cut (a ∷ b ∷ []) = cond (eqb a 0xFF && eqb b 0) (record { pieces = []; waits = Two }) (in-front (a-datum a ∷ []) (cut (b ∷ [])))
+cut (a ∷ b ∷ c ∷ []) = cond (eqb a 0xFF && eqb b 0 && eqb c 0) (record { pieces = []; waits = Three }) (in-front (a-datum a ∷ []) (cut (b ∷ c ∷ [])))
+cut (a ∷ b ∷ c ∷ xy ∷ bs) = cond (eqb a 0xFF && eqb b 0 && eqb c 0) (in-front (a-code xy ∷ []) (cut bs)) (in-front (a-datum a ∷ []) (cut (b ∷ c ∷ xy ∷ bs)))
 
--- The bytes that some events are made of.
-abbrev pub event-bytes : Event → List ℕ
-event-bytes (datum x) = x ∷ []
-event-bytes (code xy) = 0xFF ∷ 0 ∷ 0 ∷ xy ∷ []
+-- The bytes that some pieces are made of.
+abbrev pub piece-bytes : Piece → List ℕ
+piece-bytes (a-datum x) = x ∷ []
+piece-bytes (a-code xy) = 0xFF ∷ 0 ∷ 0 ∷ xy ∷ []
 
-unfoldable pub bytes-of : List Event → List ℕ
+unfoldable pub bytes-of : List Piece → List ℕ
 bytes-of [] = []
-bytes-of (e ∷ es) = event-bytes e ++ bytes-of es
+bytes-of (p ∷ ps) = piece-bytes p ++ bytes-of ps

@@ -8,6 +8,6 @@ use Rattle.rules.specs.Capture.{working-edge, enabled, blanking, frame-pads, pa
 unfoldable pub padded-at : Capture → ℕ → Option ℕ
 padded-at s w = cond (working-edge s w && enabled s) (frame-pads s (blanking s w)) none
 
-unfoldable pub filled : ℕ → Capture → Option ℕ
-filled zero s = none
-filled (suc n) s = either-word (pack s 0 .word) (filled n (pack s 0 .state))
+unfoldable pub zeros-packed : ℕ → Capture → Option ℕ
+zeros-packed zero s = none
+zeros-packed (suc n) s = either-word (pack s 0 .word) (zeros-packed n (pack s 0 .state))
