@@ -1,5 +1,6 @@
--- A byte that begins no code while none waits (W6): none waits after its sample. The idea: it is released at once. Assumes nothing.
-use mathlib.Core.Bool.{true, false, _&&_}
+-- The bytes that wait after a sample with ESS 1 (W6): at a working edge with ENABLE 1 those that the byte leaves waiting (`waiting-after`), whatever frame, line, ERR and rule 9 do; else the same (`step-waits`).
+-- So none waits after a byte that begins no code where none did (`data-waits`). The idea: data and codes leave what waits, which is set before them. Assumes nothing.
+use mathlib.Core.Bool.{Bool, true, false, cond, _&&_}
 use mathlib.Core.List.{List}
 use mathlib.Core.Path.{_≡_, refl, _∙_}
 use Prim.Native.Nat.{ℕ}
@@ -7,8 +8,10 @@ use lib.Dec.{eqb}
 use Rattle.bits.proofs.Booleans.{either}
 use Rattle.registers.specs.Control.{snapshot, embedded}
 use Rattle.samples.specs.Samples.{bus-grant}
-use Rattle.codes.specs.declared.Waiting.the-variants.{Zero}
+use Rattle.codes.specs.declared.Waiting.{Waiting}
+use Rattle.codes.specs.declared.Waiting.the-variants.{Zero, One, Two, Three}
 use Rattle.codes.specs.Bytes.{waiting-count, is-code, waiting-after, released}
+use Rattle.codes.specs.Meaning.{meaning}
 use Rattle.output.specs.Output.{grant}
 use Rattle.rules.specs.declared.Frame.{Frame}
 use Rattle.rules.specs.declared.Frame.the-variants.{Closed, Open}
@@ -16,50 +19,75 @@ use Rattle.rules.specs.declared.Capture.{Capture}
 use Rattle.rules.specs.declared.Device.{Device}
 use Rattle.rules.specs.State.{capture-of, output-of, raise, clear-capture, close-frame, with-cr, with-ris, with-registers, with-pins, with-frame, with-partial, with-waiting}
 use Rattle.rules.specs.Capture.{Captured, no-word, flagged, working-edge, enabled, remember-pins}
-use Rattle.rules.specs.Codes.{arrived, byte-in, at-byte}
+use Rattle.rules.specs.Codes.{arrived, byte-in, taken-out, at-code, at-byte}
 use Rattle.rules.specs.Sample.{byte-of, edge, capture-sample}
 use Rattle.rules.specs.Run.{lose-frame, after-grant, counted, step}
 use Rattle.laws.proofs.Coded.{each-joined}
+use Rattle.laws.proofs.Pace.{at-code-waits}
 use Rattle.laws.proofs.KeepsSample.{by-word}
 
-byte-waits : (f : Frame) (s : Capture) (x : ℕ) → s .frame ≡ f → byte-in f s x .state .waiting ≡ waiting-after (s .waiting) x
+-- A byte that is not the last of a code, and every byte.
+byte-in-waits : (f : Frame) (s : Capture) (x : ℕ) → byte-in f s x .state .waiting ≡ waiting-after (s .waiting) x
 unfolding byte-in no-word with-waiting with-frame
-byte-waits Closed s x in-f = refl
-byte-waits (Open taken f) s x in-f =
+byte-in-waits Closed s x = refl
+byte-in-waits (Open taken f) s x =
     let still = waiting-after (s .waiting) x in
     let t = with-waiting still (with-frame (Open taken (arrived f)) s) in
     either (λ (c : Captured). c .state .waiting ≡ still) (s .syncs .hsync) refl
     (each-joined t taken (arrived f) (arrived f) (released (s .waiting) x) (waiting-count still) refl .waiting)
 
-datum-waits : (s : Capture) (x : ℕ) → s .waiting ≡ Zero → eqb x 0xFF ≡ false → at-byte s x .state .waiting ≡ Zero
-unfolding at-byte waiting-after
-datum-waits s x none other =
-    let plain : is-code (s .waiting) ≡ false = rw none refl in
-    let zero : waiting-after (s .waiting) x ≡ Zero = rw (none, other) refl in
-    rw plain (byte-waits (s .frame) s x refl ∙ zero)
+at-byte-waits : (s : Capture) (x : ℕ) → at-byte s x .state .waiting ≡ waiting-after (s .waiting) x
+unfolding at-byte waiting-after with-waiting
+at-byte-waits s x = go (s .waiting) (byte-in-waits (s .frame) s x)
+  where
+    t : Capture
+    t = with-waiting Zero (taken-out (s .frame) s)
 
-sample-waits : (s : Capture) (w : ℕ) → embedded (s .registers .cr) ≡ true → s .waiting ≡ Zero → eqb (byte-of w) 0xFF ≡ false
-    → capture-sample s w .state .waiting ≡ Zero
+    after-code : at-code (meaning (s .registers .escr) (s .registers .esur) x) t .state .waiting ≡ Zero
+    after-code = at-code-waits (meaning (s .registers .escr) (s .registers .esur) x) t
+
+    go : (k : Waiting) → byte-in (s .frame) s x .state .waiting ≡ waiting-after k x
+        → cond (is-code k) (at-code (meaning (s .registers .escr) (s .registers .esur) x) t) (byte-in (s .frame) s x) .state .waiting ≡ waiting-after k x
+    go Zero e = e
+    go One e = e
+    go Two e = e
+    go Three e = after-code
+
+-- A sample: what waits after it.
+abbrev pub waits-then : Capture → ℕ → Waiting
+waits-then s w = cond (working-edge s w && enabled s) (waiting-after (s .waiting) (byte-of w)) (s .waiting)
+
+sample-waits : (s : Capture) (w : ℕ) → embedded (s .registers .cr) ≡ true → capture-sample s w .state .waiting ≡ waits-then s w
 unfolding capture-sample edge no-word remember-pins with-pins
-sample-waits s w coded none other =
-    rw coded
-    (either (λ (c : Captured). c .state .waiting ≡ Zero) (working-edge s w && enabled s) (datum-waits (remember-pins w s) (byte-of w) none other) none)
+sample-waits s w coded = rw coded (go (working-edge s w && enabled s))
+  where
+    go : (goes-on : Bool) → cond goes-on (at-byte (remember-pins w s) (byte-of w)) (no-word (remember-pins w s)) .state .waiting ≡ cond goes-on (waiting-after (s .waiting) (byte-of w)) (s .waiting)
+    go true = at-byte-waits (remember-pins w s) (byte-of w)
+    go false = refl
 
-flagged-waits : (c : Captured) → c .state .waiting ≡ Zero → flagged c .waiting ≡ Zero
+flagged-waits : (c : Captured) → flagged c .waiting ≡ c .state .waiting
 unfolding flagged raise with-registers with-ris
-flagged-waits c none = either (λ (t : Capture). t .waiting ≡ Zero) (c .due) none none
+flagged-waits c = either (λ (t : Capture). t .waiting ≡ c .state .waiting) (c .due) refl refl
 
-lost-waits : (s : Capture) → s .waiting ≡ Zero → lose-frame s .waiting ≡ Zero
+lost-waits : (s : Capture) → lose-frame s .waiting ≡ s .waiting
 unfolding lose-frame close-frame with-frame with-partial clear-capture raise with-registers with-cr with-ris
-lost-waits s none = either (λ (t : Capture). t .waiting ≡ Zero) (snapshot (s .registers .cr)) none none
+lost-waits s = either (λ (t : Capture). t .waiting ≡ s .waiting) (snapshot (s .registers .cr)) refl refl
 
-pub data-waits : (d : Device) (b : List ℕ) (w : ℕ) → embedded (d .core .capture .registers .cr) ≡ true → d .core .capture .waiting ≡ Zero
-    → eqb (byte-of w) 0xFF ≡ false → step d b w .device .core .capture .waiting ≡ Zero
-unfolding step after-grant
-data-waits d b w coded none other =
-    let s = capture-of d in
-    let c = capture-sample s w in
-    let still = sample-waits s w coded none other in
-    let same = flagged-waits c still in
-    by-word (λ (e : Device). e .core .capture .waiting ≡ Zero) (c .word) c (grant (bus-grant w) (enabled s) (counted (output-of d)) b .state)
-    same (λ e. same) (λ v. same) (λ v. lost-waits (c .state) still)
+module _ (d : Device) (b : List ℕ) (w : ℕ) (coded : embedded (d .core .capture .registers .cr) ≡ true) where
+  pub step-waits : step d b w .device .core .capture .waiting ≡ waits-then (capture-of d) w
+  unfolding step after-grant
+  step-waits =
+      let s = capture-of d in
+      let c = capture-sample s w in
+      let here = sample-waits s w coded in
+      let same = flagged-waits c ∙ here in
+      by-word (λ (e : Device). e .core .capture .waiting ≡ waits-then s w) (c .word) c (grant (bus-grant w) (enabled s) (counted (output-of d)) b .state)
+      same (λ e. same) (λ v. same) (λ v. lost-waits (c .state) ∙ here)
+
+  pub data-waits : d .core .capture .waiting ≡ Zero → eqb (byte-of w) 0xFF ≡ false → step d b w .device .core .capture .waiting ≡ Zero
+  unfolding waiting-after working-edge
+  data-waits none other = step-waits ∙ rw none (go (working-edge (capture-of d) w && enabled (capture-of d)))
+    where
+      go : (goes-on : Bool) → cond goes-on (waiting-after Zero (byte-of w)) Zero ≡ Zero
+      go true = rw other
+      go false = refl

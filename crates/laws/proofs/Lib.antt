@@ -25,6 +25,7 @@ pub mod Depth
 pub mod Padding
 pub mod Pace
 pub mod DataBytes
+pub mod CodeStream
 pub mod SyncPins
 pub mod Seeking
 pub mod OpenFrames

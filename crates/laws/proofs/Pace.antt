@@ -87,6 +87,9 @@ at-code-quiet m s = let same : Quiet s (no-word s) = none-quiet s in by-code (Qu
 pub at-code-word : (m : Meaning) (s : Capture) → at-code m s .word ≡ none
 at-code-word m s = at-code-quiet m s .word
 
+pub at-code-waits : (m : Meaning) (s : Capture) → at-code m s .state .waiting ≡ s .waiting
+at-code-waits m s = at-code-quiet m s .waiting
+
 taken-out-count : (f : Frame) (s : Capture) → taken-out f s .partial .count ≡ s .partial .count
 unfolding taken-out with-frame
 taken-out-count Closed s = refl

@@ -9,7 +9,7 @@ use native.Mathlib.Omega.{arith}
 use lib.Dec.{eqb}
 use borrow.Author.Tests.{eqb-true, eqb-false, eq-eqb, ne-eqb, not-false}
 use Rattle.bits.specs.Bits.{bit, field}
-use Rattle.registers.specs.Control.{capture, crop, jpeg, embedded, fcrc, edm, enable, unsupported-jpeg, unsupported-codes, unsupported, vspol}
+use Rattle.registers.specs.Control.{capture, crop, jpeg, embedded, fcrc, edm, enable, unsupported-jpeg, unsupported-codes, unsupported, pckpol, vspol}
 use Rattle.registers.specs.Map.{reserved-set}
 use Rattle.registers.specs.declared.Register.the-variants.{Control, InterruptEnable, WindowStart, WindowSize}
 use Rattle.rules.specs.declared.Registers.{Registers}
@@ -134,6 +134,9 @@ same-jpeg x y h = let same : x / 2 ^ 3 % 2 ≡ y / 2 ^ 3 % 2 = omega arith in rw
 
 pub same-embedded : (x y : ℕ) → field 13 1 x ≡ field 13 1 y → embedded x ≡ embedded y
 same-embedded x y h = let same : x / 2 ^ 4 % 2 ≡ y / 2 ^ 4 % 2 = omega arith in rw same
+
+pub same-pckpol : (x y : ℕ) → field 13 1 x ≡ field 13 1 y → pckpol x ≡ pckpol y
+same-pckpol x y h = let same : x / 2 ^ 5 % 2 ≡ y / 2 ^ 5 % 2 = omega arith in rw same
 
 pub same-vspol : (x y : ℕ) → field 13 1 x ≡ field 13 1 y → vspol x ≡ vspol y
 same-vspol x y h = let same : x / 2 ^ 7 % 2 ≡ y / 2 ^ 7 % 2 = omega arith in rw same

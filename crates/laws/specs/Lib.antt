@@ -6,3 +6,4 @@ pub mod Padding
 pub mod OneWord
 pub mod SyncPins
 pub mod Seeking
+pub mod CodeStream
