@@ -1,8 +1,8 @@
--- The laws of devices over lists of calls hold of boards, over one memory or two (W2): the counts and held are those of the history, the depth stays, `window-ended` is what the
--- history says, FRAME is due once, ERR rises where the rules say so, and in an open frame VSYNC does not blank.
+-- The laws of devices over lists of calls hold of boards, over one memory or two (W2): the counts and held are those of the history, the depth stays, at every moment `window-ended` is what the
+-- history says and FRAME is due once in a frame, ERR rises where the rules say so, and in an open frame VSYNC does not blank.
 -- The idea: for the device a board's calls are calls of its own (`by-device`). Assumes nothing.
 use mathlib.Core.Bool.{Bool, true, false, _&&_}
-use mathlib.Core.List.{List}
+use mathlib.Core.List.{List, [], _∷_, _++_}
 use mathlib.Core.Option.{Option}
 use mathlib.Core.Path.{_≡_}
 use Prim.Native.Nat.{ℕ, _≤_}
@@ -14,12 +14,14 @@ use Rattle.codes.specs.Meaning.{meaning}
 use Rattle.output.specs.WellFormed.{bad-depth}
 use Rattle.rules.specs.declared.Scan.{Scan}
 use Rattle.rules.specs.declared.Frame.the-variants.{Open}
+use Rattle.rules.specs.declared.Capture.{Capture}
 use Rattle.rules.specs.Capture.{working-edge, enabled, blanking, window-ended}
 use Rattle.rules.specs.Sample.{byte-of}
 use Rattle.rules.specs.Run.{Packed}
-use Rattle.laws.specs.Histories.{sampled, no-errors, without-codes}
+use Rattle.laws.specs.Histories as device-histories
+use Rattle.laws.specs.Histories.{Event, sampled, no-errors, without-codes}
 use Rattle.laws.specs.Ledger.{ledger, numbers}
-use Rattle.laws.specs.FrameHistory.{frame-entry, frame-history}
+use Rattle.laws.specs.FrameHistory.{frame-history}
 use Rattle.laws.specs.Seeking.{Runs}
 use Rattle.laws.proofs.CountsFromHistory as counts
 use Rattle.laws.proofs.Depth as depths
@@ -37,36 +39,26 @@ module _ (depth : ℕ) (sound : bad-depth depth ≡ false) (cs : List Call) wher
   pub depth-stays : reached depth cs .device .core .output .depth ≡ depth
   depth-stays = by-device (λ d es. d .core .output .depth ≡ depth) depth sound (depths.depth-stays depth) cs
 
-  -- FRAME.
-  pub window-ended-is-history : (taken : Bool) (f : Scan) → reached depth cs .device .core .capture .frame ≡ Open taken f
-      → window-ended (reached depth cs .device .core .capture) f ≡ frame-history (events (history depth cs)) .ended
-  window-ended-is-history taken f =
-      by-device (λ d es. d .core .capture .frame ≡ Open taken f → window-ended (d .core .capture) f ≡ frame-history es .ended) depth sound
-      (λ ds. frames.window-ended-is-history depth sound ds taken f)
-      cs
+  -- FRAME, at every moment: es are the device's events so far, and fs those to come.
+  pub frame-due-once : (es fs : List Event) → events (history depth cs) ≡ es ++ fs → frame-history es .due ≤ 1
+  frame-due-once es fs = by-device (λ d l. l ≡ es ++ fs → frame-history es .due ≤ 1) depth sound (λ ds. frames.frame-due-once depth sound ds es fs) cs
 
-  pub frame-due-once : frame-history (events (history depth cs)) .due ≤ 1
-  frame-due-once = by-device (λ d es. frame-history es .due ≤ 1) depth sound (frames.frame-due-once depth sound) cs
+  -- At a sample, which finds s.
+  module _ (es fs : List Event) (s : Capture) (w : ℕ) (landing : Option ℕ) (packed : Packed) (now : events (history depth cs) ≡ es ++ (sampled s w landing packed ∷ fs)) where
+    at-sample : (P : Type 0) → ((ds : List device-histories.Call) → device-histories.history depth ds ≡ es ++ (sampled s w landing packed ∷ fs) → P) → P
+    at-sample P law = by-device (λ d l. l ≡ es ++ (sampled s w landing packed ∷ fs) → P) depth sound law cs now
 
-  pub frame-due-at-the-end : (f : Scan) (w : ℕ) (landing : Option ℕ) (packed : Packed)
-      → let s = reached depth cs .device .core .capture in embedded (s .registers .cr) ≡ false → s .frame ≡ Open true f → working-edge s w && enabled s ≡ true → blanking s w .vsync ≡ true
-      → frame-entry (frame-history (events (history depth cs))) (sampled s w landing packed) .due ≡ 1
-  frame-due-at-the-end f w landing packed =
-      by-device
-      (λ d es. let s = d .core .capture in embedded (s .registers .cr) ≡ false → s .frame ≡ Open true f → working-edge s w && enabled s ≡ true → blanking s w .vsync ≡ true
-      → frame-entry (frame-history es) (sampled s w landing packed) .due ≡ 1)
-      depth sound (λ ds. frames.frame-due-at-the-end depth sound ds f w landing packed) cs
+    pub window-ended-is-history : (taken : Bool) (f : Scan) → s .frame ≡ Open taken f → window-ended s f ≡ frame-history es .ended
+    window-ended-is-history taken f = at-sample _ (λ ds at. frames.window-ended-is-history depth sound ds es fs s w landing packed at taken f)
 
-  pub frame-due-at-the-end-code : (f : Scan) (w : ℕ) (landing : Option ℕ) (packed : Packed)
-      → let s = reached depth cs .device .core .capture in embedded (s .registers .cr) ≡ true → s .frame ≡ Open true f → working-edge s w && enabled s ≡ true
-      → is-code (s .waiting) ≡ true → meaning (s .registers .escr) (s .registers .esur) (byte-of w) ≡ FrameEnd
-      → frame-entry (frame-history (events (history depth cs))) (sampled s w landing packed) .due ≡ 1
-  frame-due-at-the-end-code f w landing packed =
-      by-device
-      (λ d es. let s = d .core .capture in embedded (s .registers .cr) ≡ true → s .frame ≡ Open true f → working-edge s w && enabled s ≡ true
-      → is-code (s .waiting) ≡ true → meaning (s .registers .escr) (s .registers .esur) (byte-of w) ≡ FrameEnd
-      → frame-entry (frame-history es) (sampled s w landing packed) .due ≡ 1)
-      depth sound (λ ds. frames.frame-due-at-the-end-code depth sound ds f w landing packed) cs
+    pub frame-due-at-the-end : (f : Scan) → embedded (s .registers .cr) ≡ false → s .frame ≡ Open true f → working-edge s w && enabled s ≡ true → blanking s w .vsync ≡ true
+        → frame-history (es ++ (sampled s w landing packed ∷ [])) .due ≡ 1
+    frame-due-at-the-end f = at-sample _ (λ ds at. frames.frame-due-at-the-end depth sound ds es fs s w landing packed at f)
+
+    pub frame-due-at-the-end-code : (f : Scan) → embedded (s .registers .cr) ≡ true → s .frame ≡ Open true f → working-edge s w && enabled s ≡ true
+        → is-code (s .waiting) ≡ true → meaning (s .registers .escr) (s .registers .esur) (byte-of w) ≡ FrameEnd
+        → frame-history (es ++ (sampled s w landing packed ∷ [])) .due ≡ 1
+    frame-due-at-the-end-code f = at-sample _ (λ ds at. frames.frame-due-at-the-end-code depth sound ds es fs s w landing packed at f)
 
   -- ERR, and open frames.
   pub error-never-rises : no-errors (events (history depth cs)) ≡ true → bit 2 (reached depth cs .device .core .capture .registers .ris) ≡ false

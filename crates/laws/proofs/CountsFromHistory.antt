@@ -85,7 +85,7 @@ steps-counted d b [] = refl
 steps-counted d b (w ∷ ws) = rw (step-counted d b w, enter-all) (steps-counted (step d b w .device) (step d b w .buffer) ws)
 
 -- Samples leave ENABLE.
-steps-enable : (d : Device) (b ws : List ℕ) → enable (steps d b ws .device .core .capture .registers .cr) ≡ enable (d .core .capture .registers .cr)
+pub steps-enable : (d : Device) (b ws : List ℕ) → enable (steps d b ws .device .core .capture .registers .cr) ≡ enable (d .core .capture .registers .cr)
 unfolding steps
 steps-enable d b [] = refl
 steps-enable d b (w ∷ ws) = steps-enable (step d b w .device) (step d b w .buffer) ws ∙ step-enable d b w

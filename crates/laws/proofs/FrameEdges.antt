@@ -17,7 +17,7 @@ use Rattle.rules.specs.declared.Capture.{Capture}
 use Rattle.rules.specs.CropWindow.{lines-to-window-end}
 use Rattle.rules.specs.State.{with-ris, with-registers, with-syncs, with-frame, with-rate, with-partial, raised, raise, close-frame}
 use Rattle.rules.specs.Capture.{Captured, no-word, any-blanks, vsync-flag, line-flag, sync-flags, window-ended, hsync-after-window, frame-rises, frame-due, end-of, frame-closes, frame-end, starts, takes, open-frame, start-of, frame-start, line-begins, next-pixel, captured, pack, pixel, pixel-in, pixel-edge, at-edge}
-use Rattle.laws.specs.FrameHistory.{FrameHistory, no-history, last-line-begun, starts-frame, edge-entry}
+use Rattle.laws.specs.FrameHistory.{FrameHistory, no-history, last-line-begun, edge-starts, edge-entry}
 use Rattle.laws.proofs.WindowLines.{over, over-blanks, over-pixel, over-none, risen-on, risen-by-end, last-begun}
 
 -- What the history has to be, by the frame, the lines up to the window's last, CROP, and whether HSYNC blanked at the last working edge.
@@ -101,7 +101,7 @@ at-edge-closed s hsync x = rest-closed (sync-flags s (blanks hsync true) .frame)
 -- FRAME has been due in a taken frame that VSYNC ends.
 pub ends-risen : (taken : Bool) (f : Scan) (s : Capture) (hsync : Bool) (h : FrameHistory) → s .frame ≡ Open taken f → Told s h
     → edge-entry h s (blanks hsync true) .due ≡ cond taken 1 0
-unfolding edge-entry starts-frame frame-due frame-rises hsync-after-window window-ended
+unfolding edge-entry edge-starts frame-due frame-rises hsync-after-window window-ended
 ends-risen taken f s hsync h e told =
     let n = lines-to-window-end (s .registers) in
     let (ended, risen) = rw e at told in
@@ -116,7 +116,7 @@ open-ends taken f s y x hsync h e told =
 -- HSYNC alone blanks.
 open-blanks : (taken : Bool) (f : Scan) (s : Capture) (y x : ℕ) (h : FrameHistory) → s .frame ≡ Open taken f → Told s h
     → Told (rest (with-flags y s) (blanks true false) x) (edge-entry h s (blanks true false))
-unfolding with-registers with-ris frame-closes frame-start start-of pixel-edge pixel-in no-word with-syncs edge-entry starts-frame last-line-begun frame-due frame-rises hsync-after-window window-ended
+unfolding with-registers with-ris frame-closes frame-start start-of pixel-edge pixel-in no-word with-syncs edge-entry edge-starts last-line-begun frame-due frame-rises hsync-after-window window-ended
 open-blanks taken f s y x h e told =
     let n = lines-to-window-end (s .registers) in
     let (ended, risen) = rw e at told in
@@ -135,7 +135,7 @@ pixel-told s taken f x now h told =
 
 open-pixel : (taken : Bool) (f : Scan) (s : Capture) (y x : ℕ) (h : FrameHistory) → s .frame ≡ Open taken f → Told s h
     → Told (rest (with-flags y s) (blanks false false) x) (edge-entry h s (blanks false false))
-unfolding with-registers with-ris frame-closes frame-start start-of next-pixel line-begins pixel-edge pixel-in edge-entry starts-frame last-line-begun frame-due frame-rises hsync-after-window window-ended
+unfolding with-registers with-ris frame-closes frame-start start-of next-pixel line-begins pixel-edge pixel-in edge-entry edge-starts last-line-begun frame-due frame-rises hsync-after-window window-ended
 open-pixel taken f s y x h e told =
     let n = lines-to-window-end (s .registers) in
     let cropped = crop (s .registers .cr) in
@@ -171,7 +171,7 @@ started s now x true h e le =
     (λ neither. pixel-told _ (takes s) no-line x now no-history (rw (or-false (now .hsync) (now .vsync) neither .0) one, risen))
 
 closed-told : (s : Capture) (y x : ℕ) (now : Syncs) (h : FrameHistory) → s .frame ≡ Closed → h .due ≤ 1 → Told (rest (with-flags y s) now x) (edge-entry h s now)
-unfolding with-registers with-ris frame-start start-of starts edge-entry starts-frame frame-due
+unfolding with-registers with-ris frame-start start-of starts edge-entry edge-starts frame-due
 closed-told s y x now h e le = rw (none-closes (with-flags y s) now e, e) (started _ now x (capture (s .registers .cr) && s .syncs .vsync && not (now .vsync)) _ refl le)
 
 -- Every working edge.

@@ -1,7 +1,8 @@
--- FRAME and the window's last line (request W1), over every depth and every list of calls, with writes between the samples: the test `window-ended` is what the history of the
+-- FRAME and the window's last line (request W1), over every depth and every list of calls, with writes between the samples, at every moment: the test `window-ended` is what the history of the
 -- open frame says (`window-ended-is-history`), and FRAME is due at most once in a frame (`frame-due-once`), just once in a taken one that
 -- rule 4 ends (`frame-due-at-the-end`; with ESS 1, W6, `frame-due-at-the-end-code`).
--- The idea: each sample and each write keeps the history told (`FrameEdges`, `FrameCodes`); no write changes window or CROP while a frame is open. Assumes nothing.
+-- The idea: each sample and each write keeps the history told (`FrameEdges`, `FrameCodes`), no write changes window or CROP while a frame is open, and a moment is the end of a list of calls
+-- (`Moments`). Assumes nothing.
 use mathlib.Core.Bool.{Bool, true, false, cond, not, _&&_}
 use mathlib.Core.List.{List, [], _∷_, _++_}
 use mathlib.Core.Option.{Option}
@@ -41,18 +42,19 @@ use Rattle.rules.specs.Run.{Packed, lose-frame, after-grant, step, steps, run-r
 use Rattle.rules.specs.WellFormed.{malformed}
 use Rattle.rules.proofs.WellFormed.{CaptureOk, facts}
 use Rattle.laws.specs.Histories.{Call, a-write, a-rearming, a-placing, a-run, a-sample, after, after-all, reached, Event, sampled, samplings, accepted-samplings, samplings-of, disabling-of, events, events-of-all, history}
-use Rattle.laws.specs.FrameHistory.{FrameHistory, no-history, starts-frame, edge-entry, byte-entry, sampling-entry, frame-entry, frame-entries, frame-history}
+use Rattle.laws.specs.FrameHistory.{FrameHistory, no-history, edge-starts, edge-entry, byte-entry, sampling-entry, frame-entry, frame-entries, frame-history}
 use Rattle.laws.proofs.RegisterValues.{same-crop}
 use Rattle.laws.proofs.KeepsSample.{by-word}
 use Rattle.laws.proofs.WriteControl.{closed-frame, setup-stays}
 use Rattle.laws.proofs.Keeps.{fresh-well-formed}
 use Rattle.laws.proofs.Conservation.{call-keeps}
+use Rattle.laws.proofs.Moments.{at-moment, at-sample}
 use Rattle.laws.proofs.FrameCodes.{pins-byte-entry, at-byte-told, frame-end-risen}
 use Rattle.laws.proofs.FrameEdges.{Told, once, none-told, blanks, at-edge-told, ends-risen}
 
 -- A sample. The remembered levels play no part.
 same-entry : (f : Frame) (s : Capture) (p : Pins) (now : Syncs) (h : FrameHistory) → s .frame ≡ f → edge-entry h (with-pins p s) now ≡ edge-entry h s now
-unfolding edge-entry starts-frame frame-due with-pins window-ended hsync-after-window frame-rises starts
+unfolding edge-entry edge-starts frame-due with-pins window-ended hsync-after-window frame-rises starts
 same-entry Closed s p now h e = rw e
 same-entry (Open taken f) s p now h e = rw e
 
@@ -172,38 +174,42 @@ unfolding after-all events-of-all frame-entries
 calls-told d [] h formed told = told
 calls-told d (c ∷ cs) h formed told = rw entries-append (calls-told (after d c) cs _ (call-keeps d c formed) (call-told d c h formed told))
 
--- From a device made with a depth from 1 to 32.
-module _ (depth : ℕ) (sound : bad-depth depth ≡ false) (cs : List Call) where
-  history-told : Told (reached depth cs .core .capture) (frame-history (history depth cs))
-  unfolding fresh-of fresh-capture no-history
-  history-told = calls-told (fresh-of depth) cs no-history (fresh-well-formed depth sound) (omega arith)
+-- From a device made with a depth from 1 to 32, after every list of calls.
+history-told : (depth : ℕ) → bad-depth depth ≡ false → (cs : List Call) → Told (reached depth cs .core .capture) (frame-history (history depth cs))
+unfolding fresh-of fresh-capture no-history
+history-told depth sound cs = calls-told (fresh-of depth) cs no-history (fresh-well-formed depth sound) (omega arith)
 
-  -- The test that rule 4 makes of the lines begun and of HSYNC at the last working edge is what the history of the open frame says.
-  pub window-ended-is-history : (taken : Bool) (f : Scan) → reached depth cs .core .capture .frame ≡ Open taken f
-      → window-ended (reached depth cs .core .capture) f ≡ frame-history (history depth cs) .ended
-  unfolding window-ended
-  window-ended-is-history taken f e = (rw e at history-told) .0
-
+-- And at every moment: es are the events of the history so far, and fs those to come.
+module _ (depth : ℕ) (sound : bad-depth depth ≡ false) (cs : List Call) (es fs : List Event) where
   -- FRAME is due at most once in a frame.
-  pub frame-due-once : frame-history (history depth cs) .due ≤ 1
-  frame-due-once = once (reached depth cs .core .capture) (frame-history (history depth cs)) history-told
+  pub frame-due-once : history depth cs ≡ es ++ fs → frame-history es .due ≤ 1
+  frame-due-once = at-moment (fresh-of depth) cs es fs (λ l. frame-history l .due ≤ 1) (λ cs. once (reached depth cs .core .capture) (frame-history (history depth cs)) (history-told depth sound cs))
 
-  -- And in a taken frame that VSYNC ends it has been due just once by then, there or before; and so in one that a frame end code ends (W6).
-  pub frame-due-at-the-end : (f : Scan) (w : ℕ) (landing : Option ℕ) (packed : Packed)
-      → let s = reached depth cs .core .capture in embedded (s .registers .cr) ≡ false → s .frame ≡ Open true f → working-edge s w && enabled s ≡ true → blanking s w .vsync ≡ true
-      → frame-entry (frame-history (history depth cs)) (sampled s w landing packed) .due ≡ 1
-  unfolding frame-entry sampling-entry
-  frame-due-at-the-end f w landing packed plain e goes-on ends =
-      let s = reached depth cs .core .capture in
-      let h = frame-history (history depth cs) in
-      let now : blanking s w ≡ blanks (blanking s w .hsync) true = λ i. record { hsync = blanking s w .hsync; vsync = ends i } in
-      rw (goes-on, plain, now) (ends-risen true f s (blanking s w .hsync) h e history-told)
+  -- At a sample, which finds s.
+  module _ (s : Capture) (w : ℕ) (landing : Option ℕ) (packed : Packed) (now : history depth cs ≡ es ++ (sampled s w landing packed ∷ fs)) where
+    found-told : Told s (frame-history es)
+    found-told = at-sample (fresh-of depth) cs es fs (λ t l. Told t (frame-history l)) (history-told depth sound) s w landing packed now
 
-  pub frame-due-at-the-end-code : (f : Scan) (w : ℕ) (landing : Option ℕ) (packed : Packed)
-      → let s = reached depth cs .core .capture in embedded (s .registers .cr) ≡ true → s .frame ≡ Open true f → working-edge s w && enabled s ≡ true
-      → is-code (s .waiting) ≡ true → meaning (s .registers .escr) (s .registers .esur) (byte-of w) ≡ FrameEnd
-      → frame-entry (frame-history (history depth cs)) (sampled s w landing packed) .due ≡ 1
-  unfolding frame-entry sampling-entry byte-entry
-  frame-due-at-the-end-code f w landing packed coded e goes-on last ends =
-      let s = reached depth cs .core .capture in
-      rw (goes-on, coded, last, ends) (frame-end-risen true f s (frame-history (history depth cs)) e history-told)
+    entered : frame-history (es ++ (sampled s w landing packed ∷ [])) ≡ sampling-entry (frame-history es) s w
+    unfolding frame-entries frame-entry
+    entered = entries-append no-history es (sampled s w landing packed ∷ [])
+
+    -- The test that rule 4 makes of the lines begun and of HSYNC at the last working edge is what the history of the open frame says.
+    pub window-ended-is-history : (taken : Bool) (f : Scan) → s .frame ≡ Open taken f → window-ended s f ≡ frame-history es .ended
+    unfolding window-ended
+    window-ended-is-history taken f e = (rw e at found-told) .0
+
+    -- In a taken frame that VSYNC ends here FRAME has been due just once then, here or before; and so in one that a frame end code ends (W6).
+    pub frame-due-at-the-end : (f : Scan) → embedded (s .registers .cr) ≡ false → s .frame ≡ Open true f → working-edge s w && enabled s ≡ true → blanking s w .vsync ≡ true
+        → frame-history (es ++ (sampled s w landing packed ∷ [])) .due ≡ 1
+    unfolding sampling-entry
+    frame-due-at-the-end f plain e goes-on ends =
+        let blank : blanking s w ≡ blanks (blanking s w .hsync) true = λ i. record { hsync = blanking s w .hsync; vsync = ends i } in
+        rw (entered, goes-on, plain, blank) (ends-risen true f s (blanking s w .hsync) (frame-history es) e found-told)
+
+    pub frame-due-at-the-end-code : (f : Scan) → embedded (s .registers .cr) ≡ true → s .frame ≡ Open true f → working-edge s w && enabled s ≡ true
+        → is-code (s .waiting) ≡ true → meaning (s .registers .escr) (s .registers .esur) (byte-of w) ≡ FrameEnd
+        → frame-history (es ++ (sampled s w landing packed ∷ [])) .due ≡ 1
+    unfolding sampling-entry byte-entry
+    frame-due-at-the-end-code f coded e goes-on last ends =
+        rw (entered, goes-on, coded, last, ends) (frame-end-risen true f s (frame-history es) e found-told)

@@ -13,6 +13,7 @@ pub mod WriteControl
 pub mod KeepsWrites
 pub mod Conservation
 pub mod CountsFromHistory
+pub mod Moments
 pub mod Flags
 pub mod WindowLines
 pub mod FrameEdges

@@ -36,14 +36,14 @@ last-line-begun r Closed = false
 last-line-begun r (Open taken f) = ltb (vst (r .cwstrt) + vline (r .cwsize)) (f .lines)
 
 -- Rule 5 starts a frame at a working edge.
-unfoldable pub starts-frame : Frame → Capture → Syncs → Bool
-starts-frame Closed s now = starts s now
-starts-frame (Open taken f) s now = false
+unfoldable pub edge-starts : Frame → Capture → Syncs → Bool
+edge-starts Closed s now = starts s now
+edge-starts (Open taken f) s now = false
 
 -- A working edge, which finds s.
 unfoldable pub edge-entry : FrameHistory → Capture → Syncs → FrameHistory
 edge-entry h s now =
-    cond (starts-frame (s .frame) s now)
+    cond (edge-starts (s .frame) s now)
     no-history
     (record {
       ended = h .ended || (last-line-begun (s .registers) (s .frame) && now .hsync);
