@@ -53,8 +53,12 @@ LE = code 0xC3
 abbrev pub FE : List ℕ
 FE = code 0xD4
 
--- A device of a depth with ESCR, ESUR and CR; with the codes above, all bits compared, also with a window; with those of ITU 656 as the Linux driver sets them,
--- FSC and FEC 0xFF. No byte of the memory is 0 before.
+-- A line as ITU-R BT.656 orders it: EAV, with the V of this line, horizontal blanking, SAV with the same V, its bytes.
+abbrev pub line-656 : ℕ → ℕ → List ℕ → List ℕ
+line-656 eav sav bytes = code eav ++ 0x80 ∷ 0x10 ∷ code sav ++ bytes
+
+-- A device of a depth with ESCR, ESUR and CR; with the codes above, all bits compared, also with a window; with FSC and FEC 0xFF and two of ITU 656's codes, as the
+-- Linux driver sets them. No byte of the memory is 0 before.
 abbrev pub coded : ℕ → ℕ → ℕ → ℕ → List Entry → Log
 coded depth escr esur cr entries =
     log (fresh-of depth) (replicate 8 0xEE) (a-write ESCR escr ▸ done ∷ a-write ESUR esur ▸ done ∷ a-write CR cr ▸ done ∷ entries)
@@ -89,8 +93,8 @@ code-meanings =
     mode-2 4 0x4031
     (sends (code 0x77) 0 3 ++ sends FS 0 0 ++ sends (code 0x77) 0 0 ++ sends LE 0x10 1 ++ sends (code 0x77) 0x10 1 ++ sends LS 0x10 0 ++
     sends FE 0x19 3 ++ sends (code 0x77) 0x19 3 ++ sends FS 0x19 0) ∷
-    -- 004, mode 1, ITU 656: line start 0x80 and line end 0x9D; the codes of blanking lines, 0xB6 and 0xAB, and 0xFF match no other and are frame ends. Enabled in mid
-    -- frame: the frame begins with the first line start after a frame end
+    -- 004, mode 1, SAV and EAV in pairs: line start 0x80 and line end 0x9D; the codes of blanking lines, 0xB6 and 0xAB, and 0xFF match no other and are frame ends.
+    -- Enabled in mid frame: the frame begins with the first line start after a frame end
     mode-1 4 0x4031
     (sends (code 0x80) 0 3 ++ sends (1 ∷ 2 ∷ 3 ∷ 4 ∷ code 0x9D) 0 3 ++ sends (code 0xB6 ++ code 0xAB) 0 3 ++ sends (code 0x80) 0 0 ++
     sends (1 ∷ 2 ∷ 3 ∷ 4 ∷ []) 0 4 ++ sends (code 0x9D) 0x10 5 ++ sends (code 0x80 ++ 5 ∷ 6 ∷ 7 ∷ 8 ∷ []) 0x10 4 ++
@@ -215,6 +219,14 @@ coded-frames =
     (sends (code 0xB6) 0 3 ++ sends (code 0x80) 0 0 ++ sends (1 ∷ 2 ∷ 3 ∷ 4 ∷ code 0x9D) 0 1 ++ sends (code 0xAB) 0 3 ++ the-counts ▸ counts 40 0 0 0 0 0 ∷ []) ∷
     mode-2 4 0x4031 (sends (FS ++ 1 ∷ 2 ∷ 3 ∷ 4 ∷ []) 0 4 ++ a-write CR 0x4030 ▸ done ∷ sends LS 4 3 ++ the-counts ▸ counts 24 1 0 1 0 0 ∷ []) ∷
     mode-2 4 0x4031 (sends (0xFF ∷ 0 ∷ 0 ∷ []) 0 3 ++ a-write ICR 0x1F ▸ done ∷ a-write IER 0 ▸ done ∷ sends (0xA1 ∷ []) 0 0) ∷
+    -- a stream in ITU-R BT.656's own order with FSC 0xAB, FEC 0xB6 and a window from line 1 on: each line of blanking is a frame, and the last one's goes on with the
+    -- lines of the picture, as line 1 and so on
+    coded 4 0xB69D80AB 0xFFFFFFFF 0x34
+    (a-write CWSTRT 0x10000 ▸ done ∷ a-write CWSIZE 0x10003 ▸ done ∷ a-write CR 0x4035 ▸ done ∷
+    sends (line-656 0xB6 0xAB (0x80 ∷ 0x10 ∷ 0x80 ∷ 0x10 ∷ [])) 0 0 ++ sends (line-656 0xB6 0xAB (0x80 ∷ 0x10 ∷ 0x80 ∷ 0x10 ∷ [])) 0x19 0 ++
+    a-write ICR 0x1F ▸ done ∷ sends (line-656 0x9D 0x80 (1 ∷ 2 ∷ 3 ∷ 4 ∷ [])) 0x10 4 ++ sends (line-656 0x9D 0x80 (5 ∷ 6 ∷ 7 ∷ 8 ∷ [])) 0x10 4 ++
+    sends (line-656 0xB6 0xAB (0x80 ∷ 0x10 ∷ 0x80 ∷ 0x10 ∷ [])) 0x19 4 ++ lands-at 0 ∷ lands-at 4 ∷
+    the-memory ▸ holds (1 ∷ 2 ∷ 3 ∷ 4 ∷ 5 ∷ 6 ∷ 7 ∷ 8 ∷ []) ∷ []) ∷
     -- a snapshot: the flags rise before its CAPTURE is cleared, and the next frame raises none
     mode-2 4 0x4033
     (sends (FS ++ 1 ∷ []) 0 0 ++ sends FE 0x19 3 ++ a-read CR ▸ reads 0x4032 ∷ a-write ICR 0x1F ▸ done ∷
@@ -266,6 +278,13 @@ code-errors =
     mode-1 4 0x4031 (sends (code 0xB6 ++ code 0x80) 0 0 ++ sends (code 0x80) 4 3) ∷
     mode-1 4 0x4031 (sends (code 0xB6 ++ code 0x80 ++ code 0x9D) 0x10 1 ++ sends (code 0x9D) 0x14 3) ∷
     mode-1 4 0x4031 (sends (code 0xB6) 0 3 ++ sends (code 0x9D) 4 3) ∷
+    -- so of a stream in ITU-R BT.656's own order, where V changes with EAV, nothing is captured: a line of blanking, two of the picture, and once more. The first 9D
+    -- behind B6 .. AB is a line end between frames, and until the next B6 no code counts, neither 80 nor 9D
+    mode-1 4 0x4031
+    (sends (line-656 0xB6 0xAB (0x80 ∷ 0x10 ∷ [])) 0 3 ++ sends (line-656 0x9D 0x80 (1 ∷ 2 ∷ 3 ∷ 4 ∷ [])) 4 3 ++
+    sends (line-656 0x9D 0x80 (5 ∷ 6 ∷ 7 ∷ 8 ∷ [])) 4 3 ++ a-write ICR 4 ▸ done ∷ sends (line-656 0xB6 0xAB (0x80 ∷ 0x10 ∷ [])) 0 3 ++
+    sends (code 0x9D) 4 3 ++ sends (0x80 ∷ 0x10 ∷ code 0x80 ++ 1 ∷ 2 ∷ 3 ∷ 4 ∷ line-656 0x9D 0x80 (5 ∷ 6 ∷ 7 ∷ 8 ∷ [])) 4 3 ++
+    sends (line-656 0xB6 0xAB (0x80 ∷ 0x10 ∷ [])) 4 3 ++ the-counts ▸ counts 184 0 0 0 0 0 ∷ []) ∷
     -- a frame end outside a frame is no error and does nothing: the held word stays, and a frame may start
     mode-2 4 0x4031
     (sends (FS ++ 1 ∷ 2 ∷ 3 ∷ 4 ∷ FE) 0x19 7 ++ a-write ICR 0x1F ▸ done ∷ sends (FE ++ FE) 0 7 ++ the-counts ▸ counts 40 1 0 0 1 0 ∷

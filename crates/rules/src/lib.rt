@@ -29,7 +29,8 @@ pub struct Syncs {
     pub vsync: bool,
 }
 
-// The place in an open frame: the lines begun in it, and the pixels of the last line. With ESS 1 these are the bytes of the last line, those that wait included (W6).
+// The place in an open frame: the lines begun in it, and the pixels of the last line, whose column is one less. With ESS 1 the bytes that wait are counted too while the
+// line is open (W6): the last pixel's column is then less by these.
 pub struct Scan {
     pub lines: u32,
     pub pixels: u32,
