@@ -66,8 +66,8 @@ static void make_compressed(size_t count, unsigned rows, int overrun)
     }
 }
 
-/* Pictures as ITU 656 sends them, with the same blanking at their ends and the same grants: a row is a code, 640 bytes, a code and 12 bytes of blanking. The
- * middle rows begin with 0x80 and end with 0x9D, the others have 0xAB and 0xB6, which end a frame. No byte but those of codes is 00 or FF. */
+/* Pictures with SAV and EAV in pairs, with the same blanking at their ends and the same grants: a row is a code, 640 bytes, a code and 12 bytes of blanking.
+ * The middle rows begin with 0x80 and end with 0x9D, the others have 0xAB and 0xB6, which end a frame. No byte but those of codes is 00 or FF. */
 static void make_coded(size_t count, unsigned rows, int overrun)
 {
     size_t n = 0;

@@ -63,7 +63,7 @@ row 14 0 0 490 4 3
 row 14 0 0 490 32 0
 row 14 0 0 490 32 30
 row jpeg 0 0 98 4 0 646800 # five pictures, each with a padded word at its end
-row ess 0 0 490 4 0 # one picture as ITU 656 sends it
+row ess 0 0 490 4 0 # one picture with SAV and EAV in pairs
 row ess 1 0 490 4 0
 echo
 sample() {

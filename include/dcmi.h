@@ -36,7 +36,7 @@ enum {
     DCMI_LENGTH = 13,      /* fewer than 8 bytes, fewer than 10 in version 2, or length not as the header says */
     DCMI_WRITES = 14,      /* more than 255 writes given to the writer */
     DCMI_ROOM = 15,        /* the writer's output does not fit */
-    DCMI_MODE = 16,        /* one memory is lent in mode two, or two in mode one */
+    DCMI_MODE = 16,        /* one memory is lent in mode two, or two in mode one; or dcmi_latest_frame is called in mode one */
     DCMI_DEPTH = 18        /* depth 0 or above 32 where a device is made */
 };
 
@@ -45,6 +45,24 @@ enum {
     DCMI_CR = 0x00, DCMI_SR = 0x04, DCMI_RIS = 0x08, DCMI_IER = 0x0C, DCMI_MIS = 0x10, DCMI_ICR = 0x14, DCMI_ESCR = 0x18, DCMI_ESUR = 0x1C,
     DCMI_CWSTRT = 0x20, DCMI_CWSIZE = 0x24
 };
+
+/* Bits of CR; FCRC and EDM are fields of two bits, with a name for each content but FCRC 3, which is refused. */
+enum {
+    DCMI_CR_CAPTURE = 1 << 0, DCMI_CR_CM = 1 << 1 /* 1 snapshot, 0 continuous */, DCMI_CR_CROP = 1 << 2, DCMI_CR_JPEG = 1 << 3, DCMI_CR_ESS = 1 << 4,
+    DCMI_CR_PCKPOL = 1 << 5, DCMI_CR_HSPOL = 1 << 6, DCMI_CR_VSPOL = 1 << 7,
+    DCMI_CR_FCRC = 3 << 8, DCMI_CR_FCRC_ALL = 0 << 8, DCMI_CR_FCRC_SECOND = 1 << 8, DCMI_CR_FCRC_FOURTH = 2 << 8, /* which frames are taken */
+    DCMI_CR_EDM = 3 << 10, DCMI_CR_EDM_8 = 0 << 10, DCMI_CR_EDM_10 = 1 << 10, DCMI_CR_EDM_12 = 2 << 10, DCMI_CR_EDM_14 = 3 << 10, /* data bits */
+    DCMI_CR_ENABLE = 1 << 14
+};
+
+/* The flags: bits of RIS, and the same of IER, MIS and ICR. */
+enum { DCMI_FLAG_FRAME = 1 << 0, DCMI_FLAG_OVR = 1 << 1, DCMI_FLAG_ERR = 1 << 2, DCMI_FLAG_VSYNC = 1 << 3, DCMI_FLAG_LINE = 1 << 4 };
+
+/* Bits of SR. */
+enum { DCMI_SR_HSYNC = 1 << 0, DCMI_SR_VSYNC = 1 << 1, DCMI_SR_FNE = 1 << 2 };
+
+/* Bits of a sample, above the data in 13:0. */
+enum { DCMI_PIN_HSYNC = 1 << 14, DCMI_PIN_VSYNC = 1 << 15, DCMI_PIN_CLOCK = 1 << 16, DCMI_GRANT = 1 << 17 };
 
 /* A device: an image of 32-bit words that the caller owns, copies and stores as it likes. `dcmi_reset` and `dcmi_reset_depth` make a fresh one.
  * A word that is 0 or 1 says no or yes; an image with another value there, a frame above 2, more than 3 waiting bytes, lines or pixels in a closed frame,
@@ -61,11 +79,12 @@ enum {
     DCMI_W_VSYNC = 6,
     DCMI_W_CLOCK = 7,
     DCMI_W_HSYNC_BLANKED = 8,  /* whether each sync blanked at the last working edge: 0 or 1. With ESS 1 what the codes said: in an open frame
-                                * HSYNC_BLANKED is 0 in a line; with no frame open VSYNC_BLANKED is 0 until a frame start, with FSC 0xFF a frame end */
+                                * HSYNC_BLANKED is 0 in a line; with no frame open VSYNC_BLANKED is 0 after enabling, ERR or an overrun, where only a
+                                * frame start counts, with FSC 0xFF a frame end, and 1 after a frame end that counted */
     DCMI_W_VSYNC_BLANKED = 9,
     DCMI_W_FRAME = 10,         /* 0 closed, 1 open and not taken, 2 open and taken */
-    DCMI_W_LINES = 11,         /* lines begun in the open frame, pixels of the last line, with ESS 1 the waiting bytes too; both 0 in a closed one */
-    DCMI_W_PIXELS = 12,
+    DCMI_W_LINES = 11,         /* lines begun in the open frame and pixels of the last line; both 0 in a closed frame. The last pixel's column is */
+    DCMI_W_PIXELS = 12,        /* PIXELS - 1; in an open line with ESS 1, where the bytes that wait are counted too, that less WAITING */
     DCMI_W_RATE = 13,          /* the rate counter */
     DCMI_W_PARTIAL_COUNT = 14, /* the partial word: how many data, and their bits */
     DCMI_W_PARTIAL_BITS = 15,
@@ -140,6 +159,32 @@ typedef struct dcmi_writes {
     uint8_t offset[255];
     uint32_t value[255];
 } dcmi_writes;
+
+/* What a refusal number says, in English, as docs/BENCH.md has it; DCMI_OK is "accepted". */
+static inline const char *dcmi_refusal_text(uint32_t number)
+{
+    switch (number) {
+    case DCMI_OK: return "accepted";
+    case DCMI_MALFORMED: return "the image is malformed: not reset, overwritten, or made by hand";
+    case DCMI_NO_REGISTER: return "no register at the offset; DR is not modelled";
+    case DCMI_ACCESS: return "ICR was read, or SR, RIS or MIS written";
+    case DCMI_RESERVED: return "a 1 in CR 31:15 or 13:12, IER or ICR 31:5, CWSTRT 31:29 or 15:14, CWSIZE 31:30 or 15:14";
+    case DCMI_UNSUPPORTED: return "CR with FCRC 3, JPEG with CROP or an EDM other than 0, ESS with JPEG or an EDM other than 0, or CAPTURE 1 with ENABLE 0";
+    case DCMI_ENABLED: return "enabled, and ESCR, ESUR, CWSTRT or CWSIZE is written, a CR bit other than CAPTURE and ENABLE changes, or the buffer mode is set";
+    case DCMI_SAMPLE_BITS: return "a sample, maybe a late one, has a bit above 17; none was run";
+    case DCMI_SAMPLES: return "the device would have taken more than 4,294,967,295 samples since reset";
+    case DCMI_START: return "the start byte lies beyond the end of memory; of two memories, one of them beyond its own";
+    case DCMI_MARK: return "bytes 0 to 2 are not FGT";
+    case DCMI_VERSION: return "bytes 3 and 4 are neither 1 nor 2, low byte first";
+    case DCMI_COUNT: return "version 1 with more than 16,384 samples, version 2 with no more, or more than 4,294,967,295 given to the writer";
+    case DCMI_LENGTH: return "fewer than 8 bytes, in version 2 than 10; or not that many + 5 for each write + 3 for each sample";
+    case DCMI_WRITES: return "more than 255 writes given to the writer";
+    case DCMI_ROOM: return "the output buffer is shorter than the file";
+    case DCMI_MODE: return "one memory was lent in mode two, or two in mode one; or the latest frame was asked for in mode one";
+    case DCMI_DEPTH: return "a depth of 0 or above 32, where a device is made";
+    default: return "no refusal has this number";
+    }
+}
 
 /* A fresh device with a FIFO of four words. Never refused, whatever the image held. */
 uint32_t dcmi_reset(dcmi_device *device);

@@ -12,14 +12,14 @@ fail() {
 [ -x "$printer" ] || fail "target/bin/frame_printer is not there: rt check frame_printer makes it"
 mkdir -p "$out" || fail "cannot make $out"
 
-# The samples: the last line is the last landed word.
-for sample in trace_t:091B0AAB ice_bath_12_bits:0AAB0AAB ice_bath_10_bits:02AB02AB itu_656:38803780; do
+# The samples: the last line is the last landed word; in ITU 656's own order none lands, and the last line has the flags, ERR alone.
+for sample in trace_t:091B0AAB ice_bath_12_bits:0AAB0AAB ice_bath_10_bits:02AB02AB codes_in_pairs:38803780 'itu_656_order:flags 04'; do
     name=${sample%:*}
     last=$("$printer" <"samples/$name.fgt" | tail -n 1)
     [ "$last" = "${sample#*:}" ] || fail "samples/$name.fgt printed $last"
 done
 cmp -s samples/trace_t.fgt crates/frame_printer/stdin || fail "samples/trace_t.fgt is not the paper's file"
-echo "The frame printer: the ice bath reads 2731 at twelve bits and 683 at ten; two lines of an ITU 656 imager land."
+echo "The frame printer: the ice bath reads 2731 at twelve bits and 683 at ten; two lines with codes in pairs land, and in the order of ITU 656 none."
 
 gcc -std=c11 -O1 -Wall -Wextra -pedantic -Werror -Iinclude -Itests/c tests/c/printer.c tests/c/printed.c tests/c/inputs.c tests/c/model.c -o "$out/printer" || fail "compiling tests/c/printer.c"
 "$out/printer" "$printer" "$out" || fail "the comparison (alone: $out/printer $printer $out CASE)"

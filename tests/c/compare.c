@@ -573,7 +573,7 @@ static dcmi_answer send(const uint8_t *bytes, size_t count)
 /* Four codes, all bits compared. */
 enum { FS = 0x51, LS = 0x52, LE = 0x53, FE = 0x54, NO_CODE = 0x55 };
 enum { FOUR_CODES = 0x54535251 };
-static const uint32_t itu_656 = 0xFF9D80FF;
+static const uint32_t in_pairs = 0xFF9D80FF; /* no frame codes: line start and line end are SAV and EAV of lines that are not blanking */
 enum { CONTINUOUS = 0x4031, SNAPSHOT = 0x4033, CROPPED = 0x4035 }; /* CR with ENABLE, PCKPOL, ESS and CAPTURE */
 
 static void coded(uint32_t depth, uint32_t cr, uint32_t escr, uint32_t esur)
@@ -781,35 +781,36 @@ static void paper_codes_overrun(uint32_t depth, uint32_t cr)
     expect_device("W6, ERR with the FIFO full", 0, 0, depth, 0x04);
 }
 
-/* ITU 656: no frame start, every other code is a frame end; the first line start after one starts a frame. */
-static void paper_codes_656(void)
+/* SAV and EAV in pairs, EAV with the V of the line that it ends: no frame start, every other code is a frame end; the first line start after one starts a
+ * frame. */
+static void paper_codes_in_pairs(void)
 {
-    coded(4, CONTINUOUS, itu_656, UINT32_MAX);
+    coded(4, CONTINUOUS, in_pairs, UINT32_MAX);
     SEND(CODE(0x80), 1, 2, 3, 4, CODE(0x9D), CODE(0x80), CODE(0x80));
-    expect_place("W6, 656, before a frame end", 3, 0, 0, 0, 0);
+    expect_place("W6, in pairs, before a frame end", 3, 0, 0, 0, 0);
     SEND(CODE(0xB6));
-    expect_place("W6, 656, a frame end", 3, 0, 0, 0, 0);
+    expect_place("W6, in pairs, a frame end", 3, 0, 0, 0, 0);
     for (unsigned frame = 0; frame < 2; frame++) {
         SEND(CODE(0x80));
-        expect_place("W6, 656, the first line", 0, 0, 2, 1, 0);
+        expect_place("W6, in pairs, the first line", 0, 0, 2, 1, 0);
         SEND(1, 2, 3, 4, CODE(0x9D));
-        expect_place("W6, 656, its end", 1, 0x10, 2, 1, 4);
+        expect_place("W6, in pairs, its end", 1, 0x10, 2, 1, 4);
         SEND(CODE(0x80), 5, 6, 7, 8, CODE(0x9D));
-        expect_place("W6, 656, the second line", 1, 0x10, 2, 2, 4);
+        expect_place("W6, in pairs, the second line", 1, 0x10, 2, 2, 4);
         SEND(CODE(0xFF)); /* FF is an other code too */
-        expect_place("W6, 656, frame end", 3, 0x19, 0, 0, 0);
+        expect_place("W6, in pairs, frame end", 3, 0x19, 0, 0, 0);
         SEND(CODE(0xAB), CODE(0xB6));
         check_write(DCMI_ICR, 0x1F);
     }
-    expect_device("W6, 656, four words", 0, 4, 0, 0);
+    expect_device("W6, in pairs, four words", 0, 4, 0, 0);
     SEND(CODE(0x9D));
-    expect_place("W6, 656, a line end outside a frame", 3, 0x04, 0, 0, 0);
+    expect_place("W6, in pairs, a line end outside a frame", 3, 0x04, 0, 0, 0);
     SEND(CODE(0x80));
-    expect_place("W6, 656, a line start after ERR", 3, 0x04, 0, 0, 0);
+    expect_place("W6, in pairs, a line start after ERR", 3, 0x04, 0, 0, 0);
     SEND(CODE(0xB6), CODE(0x80));
-    expect_place("W6, 656, after a frame end", 0, 0x04, 2, 1, 0);
+    expect_place("W6, in pairs, after a frame end", 0, 0x04, 2, 1, 0);
     SEND(CODE(0x80));
-    expect_place("W6, 656, a line start in a line", 3, 0x04, 0, 0, 0);
+    expect_place("W6, in pairs, a line start in a line", 3, 0x04, 0, 0, 0);
 }
 
 /* The meaning of a code where ESCR and ESUR are these: the frame, and what is raised, after it in an open line, between lines and between frames. */
@@ -853,7 +854,7 @@ static void paper_codes_meanings(void)
         expect_meaning("W6, FEC 0xFF and FSC of unmask 0", 0xFF535251, 0xFFFFFF00, byte, 2);
         expect_meaning("W6, FSC 0xFF", 0x545352FF, UINT32_MAX, byte, xy == FE ? 1 : xy == LE ? 3 : xy == LS ? 4 : 0);
         expect_meaning("W6, FSC 0xFF, unmask 0", 0x545352FF, 0xFFFFFF00, byte, xy == FE ? 1 : xy == LE ? 3 : xy == LS ? 4 : 0);
-        expect_meaning("W6, 656", itu_656, UINT32_MAX, byte, xy == 0x9D ? 3 : xy == 0x80 ? 4 : 1);
+        expect_meaning("W6, FEC and FSC 0xFF", in_pairs, UINT32_MAX, byte, xy == 0x9D ? 3 : xy == 0x80 ? 4 : 1);
         expect_meaning("W6, LEC 0xFF", 0x54FF5251, UINT32_MAX, byte, xy == FE ? 1 : xy == FS ? 2 : xy == 0xFF ? 3 : xy == LS ? 4 : 0);
         expect_meaning("W6, LSC 0xFF", 0x5453FF51, UINT32_MAX, byte, xy == FE ? 1 : xy == FS ? 2 : xy == LE ? 3 : xy == 0xFF ? 4 : 0);
         expect_meaning("W6, all 0xFF", UINT32_MAX, UINT32_MAX, byte, xy == 0xFF ? 3 : 1);
@@ -1027,7 +1028,7 @@ static void paper_codes(void)
         paper_codes_overrun(depth, SNAPSHOT);
         paper_codes_grants(depth);
     }
-    paper_codes_656();
+    paper_codes_in_pairs();
     paper_codes_meanings();
     paper_codes_capture();
     paper_codes_window(CROPPED);

@@ -13,6 +13,15 @@ static_assert(DCMI_NO_FRAME == 0 && DCMI_FRAME_IN_A == 1 && DCMI_FRAME_IN_B == 2
 static_assert(DCMI_CR == 0x00 && DCMI_SR == 0x04 && DCMI_RIS == 0x08 && DCMI_IER == 0x0C && DCMI_MIS == 0x10, "offsets");
 static_assert(DCMI_ICR == 0x14 && DCMI_ESCR == 0x18 && DCMI_ESUR == 0x1C && DCMI_CWSTRT == 0x20 && DCMI_CWSIZE == 0x24, "offsets");
 
+static_assert((DCMI_CR_CAPTURE | DCMI_CR_CM | DCMI_CR_CROP | DCMI_CR_JPEG | DCMI_CR_ESS | DCMI_CR_PCKPOL | DCMI_CR_HSPOL | DCMI_CR_VSPOL) == 0xFF, "bits of CR");
+static_assert(DCMI_CR_CAPTURE == 0x1 && DCMI_CR_CM == 0x2 && DCMI_CR_CROP == 0x4 && DCMI_CR_JPEG == 0x8 && DCMI_CR_ESS == 0x10, "bits of CR");
+static_assert(DCMI_CR_PCKPOL == 0x20 && DCMI_CR_HSPOL == 0x40 && DCMI_CR_VSPOL == 0x80 && DCMI_CR_ENABLE == 0x4000, "bits of CR");
+static_assert(DCMI_CR_FCRC == 0x300 && DCMI_CR_FCRC_ALL == 0 && DCMI_CR_FCRC_SECOND == 0x100 && DCMI_CR_FCRC_FOURTH == 0x200, "FCRC");
+static_assert(DCMI_CR_EDM == 0xC00 && DCMI_CR_EDM_8 == 0 && DCMI_CR_EDM_10 == 0x400 && DCMI_CR_EDM_12 == 0x800 && DCMI_CR_EDM_14 == 0xC00, "EDM");
+static_assert(DCMI_FLAG_FRAME == 1 && DCMI_FLAG_OVR == 2 && DCMI_FLAG_ERR == 4 && DCMI_FLAG_VSYNC == 8 && DCMI_FLAG_LINE == 16, "flags");
+static_assert(DCMI_SR_HSYNC == 1 && DCMI_SR_VSYNC == 2 && DCMI_SR_FNE == 4, "bits of SR");
+static_assert(DCMI_PIN_HSYNC == 0x4000 && DCMI_PIN_VSYNC == 0x8000 && DCMI_PIN_CLOCK == 0x10000 && DCMI_GRANT == 0x20000, "bits of a sample");
+
 /* The layout that the library was built with. */
 static_assert(sizeof(dcmi_device) == 268 && sizeof(dcmi_answer) == 32 && sizeof(dcmi_frame) == 24 && sizeof(dcmi_item) == 32, "sizes");
 static_assert(DCMI_WORDS == 67 && DCMI_W_PARTIAL_BITS == 15 && DCMI_W_SLOT == 16 && DCMI_W_HELD == 48, "words of a device");

@@ -163,7 +163,7 @@ static uint32_t field(uint32_t codes, unsigned delimiter) { return codes >> 8 * 
 
 void any_codes(uint32_t *escr, uint32_t *esur)
 {
-    *escr = 0xFF9D80FF; /* ITU 656 */
+    *escr = 0xFF9D80FF; /* no frame codes, line start and line end of ITU 656 */
     *esur = UINT32_MAX;
     const uint32_t kind = below(8);
     if (kind == 0) return;

@@ -44,7 +44,7 @@ void scene_samples(scene *s, uint32_t *samples, size_t count);
 enum { MOST_PACKETS = 1024 };
 size_t packets(uint32_t cr, uint32_t bytes, uint32_t grant, uint32_t *samples);
 
-/* W6. ESCR and ESUR: those of ITU 656, four codes, often with 0xFF for FSC or FEC and few unmask bits, or anything. */
+/* W6. ESCR and ESUR: as for the codes of ITU 656, four codes, often with 0xFF for FSC or FEC and few unmask bits, or anything. */
 void any_codes(uint32_t *escr, uint32_t *esur);
 /* A byte of which codes are made: FF, 00, one of ESCR with any masked bits, or any. */
 uint32_t code_byte(uint32_t escr, uint32_t esur);
