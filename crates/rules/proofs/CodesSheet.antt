@@ -28,7 +28,7 @@ use Rattle.rules.specs.RegisterCalls.{write}
 use Rattle.rules.specs.WellFormed.{malformed}
 use Rattle.rules.specs.Run.{Packed, nothing, completed, lost, run}
 use Rattle.rules.proofs.EveryRule.{every-rule}
-use Rattle.rules.proofs.BenchSheet.{_≔_, CR, SR, RIS, IER, ICR, CWSTRT, CWSIZE, edge, edges, blank, Entry, _▸_, a-write, a-read, a-run, a-sample, the-line, the-counts, the-memory, done, refused, reads, line, sampled, counts, holds, all-refused, Judged, well, ill, Log, log, told, told-by, played, words-are, no-slots, partial-is, frame-is, registered}
+use Rattle.rules.proofs.BenchSheet.{_≔_, CR, SR, RIS, IER, ICR, CWSTRT, CWSIZE, edge, edges, blank, Entry, _▸_, a-write, a-read, a-run, a-sample, a-rearming, the-line, the-counts, the-memory, done, refused, reads, line, sampled, counts, holds, all-refused, Judged, well, ill, Log, log, told, told-by, played, words-are, no-slots, partial-is, frame-is, registered}
 use Rattle.rules.proofs.RequestSheet.{all-accepted, lands-at}
 
 abbrev pub ESCR : ℕ
@@ -404,6 +404,10 @@ releases =
     (sends (FS ++ 1 ∷ 2 ∷ 3 ∷ 4 ∷ 5 ∷ 6 ∷ 7 ∷ 0xFF ∷ []) 0 4 ++ a-sample 0 0x00008 ▸ sampled none nothing ∷
     a-sample 0 0x30008 ▸ sampled (some 0) (completed 0xFF070605) ∷ sends (9 ∷ 0x0A ∷ []) 0 4 ++ the-counts ▸ counts 30 2 1 0 1 1 ∷ []) ∷
     mode-2 1 0x4033 (sends (FS ++ 1 ∷ 2 ∷ 3 ∷ 4 ∷ 5 ∷ 6 ∷ 7 ∷ 0xFF ∷ []) 0 4 ++ byte 8 lost ++ shows 2 3 ++ a-read CR ▸ reads 0x4032 ∷ []) ∷
+    -- re-arming leaves them: between FF 00 00 and XY, and between an FF and what releases it
+    mode-2 4 0x4031
+    (sends (0xFF ∷ 0 ∷ 0 ∷ []) 0 3 ++ a-rearming ▸ done ∷ sends (0xA1 ∷ 1 ∷ 2 ∷ 0xFF ∷ []) 0 0 ++ a-rearming ▸ done ∷
+    byte 3 (completed 0x03FF0201)) ∷
     -- "disabling drops waiting bytes": no code and no data come of them; bytes while disabled are none
     mode-2 4 0x4031 (sends (0xFF ∷ 0 ∷ 0 ∷ []) 0 3 ++ a-write CR 0x30 ▸ done ∷ a-write CR 0x4031 ▸ done ∷ sends (0xA1 ∷ []) 0 3 ++ sends FS 0 0) ∷
     mode-2 4 0x4031 (sends (0xFF ∷ 0 ∷ []) 0 3 ++ a-write CR 0x30 ▸ done ∷ a-write CR 0x4031 ▸ done ∷ sends (0 ∷ 0xA1 ∷ []) 0 3 ++ sends FS 0 0) ∷
