@@ -813,6 +813,33 @@ static void paper_codes_in_pairs(void)
     expect_place("W6, in pairs, a line start in a line", 3, 0x04, 0, 0, 0);
 }
 
+/* ITU-R BT.656's own order: EAV has the V of the line that it begins. Behind the blanking 0x9D is a line end outside a line, in each frame, and then only a
+ * frame end counts. With FSC 0xAB, FEC 0xB6 and a window from line 1 on the lines are captured: the frame begins with the last line of blanking. */
+static void paper_codes_656_order(void)
+{
+    coded(4, CONTINUOUS, in_pairs, UINT32_MAX);
+    for (unsigned frame = 0; frame < 2; frame++) {
+        SEND(CODE(0xB6), 0x80, 0x10, CODE(0xAB), 0x80, 0x10);
+        expect_place("W6, 656's order, blanking", 3, 0, 0, 0, 0);
+        SEND(CODE(0x9D));
+        expect_place("W6, 656's order, the first line's EAV", 3, 0x04, 0, 0, 0);
+        SEND(0x80, 0x10, CODE(0x80), 1, 2, 3, 4, CODE(0x9D), 0x80, 0x10, CODE(0x80), 5, 6, 7, 8);
+        expect_place("W6, 656's order, two lines", 3, 0x04, 0, 0, 0);
+        check_write(DCMI_ICR, 0x1F);
+    }
+    expect_device("W6, 656's order, no word", 0, 0, 0, 0);
+    coded(4, CROPPED & ~DCMI_CR_ENABLE & ~DCMI_CR_CAPTURE, 0xB69D80AB, UINT32_MAX);
+    check_write(DCMI_CWSTRT, 0x10000);
+    check_write(DCMI_CWSIZE, 0x10003);
+    check_write(DCMI_CR, CROPPED);
+    SEND(CODE(0xB6), 0x80, 0x10, CODE(0xAB), 0x80, 0x10, 0x80, 0x10, CODE(0xB6), 0x80, 0x10, CODE(0xAB), 0x80, 0x10, 0x80, 0x10);
+    expect_place("W6, 656's order, a frame for each line of blanking", 0, 0x19, 2, 1, 4);
+    SEND(CODE(0x9D), 0x80, 0x10, CODE(0x80), 1, 2, 3, 4, CODE(0x9D), 0x80, 0x10, CODE(0x80), 5, 6, 7, 8);
+    expect_place("W6, 656's order, line 2", 0, 0x19, 2, 3, 4);
+    SEND(CODE(0xB6));
+    expect_device("W6, 656's order, two words", 0, 2, 0, 0x19);
+}
+
 /* The meaning of a code where ESCR and ESUR are these: the frame, and what is raised, after it in an open line, between lines and between frames. */
 static void expect_meaning(const char *what, uint32_t escr, uint32_t esur, uint8_t xy, unsigned meaning)
 {
@@ -1029,6 +1056,7 @@ static void paper_codes(void)
         paper_codes_grants(depth);
     }
     paper_codes_in_pairs();
+    paper_codes_656_order();
     paper_codes_meanings();
     paper_codes_capture();
     paper_codes_window(CROPPED);
