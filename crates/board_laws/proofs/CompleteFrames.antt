@@ -13,7 +13,7 @@ use Rattle.buffers.specs.declared.Turns.{Turns}
 use Rattle.buffers.specs.Turns as turn-rules
 use Rattle.buffers.specs.Turns.{fresh-turns, latest-complete}
 use Rattle.buffers.specs.Story as story
-use Rattle.buffers.specs.Story.{Tale, complete-in, latest-in}
+use Rattle.buffers.specs.Story.{Tale, complete-in, latest-in, how-many, which}
 use Rattle.buffers.specs.Kept.{Kept, start, keep, keeps, complete-of}
 use Rattle.buffers.proofs.Told.{complete-is-history}
 use Rattle.buffers.proofs.LatestFrame.{latest-is-history}
@@ -47,17 +47,17 @@ use Rattle.board_laws.proofs.BoardConservation.{board-facts, write-coun
 use Rattle.board_laws.proofs.AsDevice.{same-byte, two-steps-enable}
 
 -- Some events make of a fresh start what is kept, and tell these frames.
-record Explained (k : Kept) (fs : List Tale) : Type 0 where
+pub record Explained (k : Kept) (fs : List Tale) : Type 0 where
   pub since : List story.Event
   pub keeps : k ≡ keeps start since
   pub tells : fs ≡ story.story [] since
 
-story-append : (fs : List Tale) (es more : List story.Event) → story.story fs (es ++ more) ≡ story.story (story.story fs es) more
+pub story-append : (fs : List Tale) (es more : List story.Event) → story.story fs (es ++ more) ≡ story.story (story.story fs es) more
 unfolding story.story
 story-append fs [] more = refl
 story-append fs (e ∷ es) more = story-append (story.tell fs e) es more
 
-explained-on : {k k′ : Kept} {fs fs′ : List Tale} (es : List story.Event) → Explained k fs → k′ ≡ keeps k es → fs′ ≡ story.story fs es → Explained k′ fs′
+pub explained-on : {k k′ : Kept} {fs fs′ : List Tale} (es : List story.Event) → Explained k fs → k′ ≡ keeps k es → fs′ ≡ story.story fs es → Explained k′ fs′
 explained-on es x kept told =
     record {
       since = x .since ++ es;
@@ -66,18 +66,18 @@ explained-on es x kept told =
     }
 
 -- Of a board: nothing is to be explained in mode one.
-abbrev Explains : Device → Mode → List Tale → Type 0
+abbrev pub Explains : Device → Mode → List Tale → Type 0
 Explains d One fs = Unit {0}
 Explains d (Two t) fs = Explained (kept d t) fs
 
 -- A list of happenings after another.
-tell-append : (fs : List Tale) (hs gs : List Happening) → tell-all fs (hs ++ gs) ≡ tell-all (tell-all fs hs) gs
+pub tell-append : (fs : List Tale) (hs gs : List Happening) → tell-all fs (hs ++ gs) ≡ tell-all (tell-all fs hs) gs
 unfolding tell-all
 tell-append fs [] gs = refl
 tell-append fs (h ∷ hs) gs = tell-append (tell fs h) hs gs
 
 -- Samples over two memories.
-two-step-kept : (x : buffer-rules.Two) (w : ℕ)
+pub two-step-kept : (x : buffer-rules.Two) (w : ℕ)
     → let r = two-step x w in
     let d = x .device in
     kept (r .after .device) (r .after .turns) ≡ keeps (kept d (x .turns)) (sample-events (capture-of d) w (byte-of (r .landing)) (r .packed))
@@ -189,7 +189,7 @@ two-explained d (Two t) l ws n fs h = go (eqb n 0)
     go false = unchanged d (Two t) fs h
 
 -- Every call, and every list of calls.
-call-explained : (b : Board) (c : Call) (fs : List Tale) → malformed b ≡ false → Explains (b .device) (b .mode) fs
+pub call-explained : (b : Board) (c : Call) (fs : List Tale) → malformed b ≡ false → Explains (b .device) (b .mode) fs
     → Explains (after b c .device) (after b c .mode) (tell-all fs (happenings b c))
 unfolding after happenings device-events samplings-of changes-of
 call-explained b (a-write offset value fits) fs e h =
@@ -220,15 +220,15 @@ calls-explained b (c ∷ cs) fs e h =
 
 -- From a board made with a depth from 1 to 32, in mode two.
 module _ (depth : ℕ) (sound : bad-depth depth ≡ false) (cs : List Call) (t : Turns) (two : reached depth cs .mode ≡ Two t) where
-  explained : Explained (kept (reached depth cs .device) t) (frames (history depth cs))
+  pub explained : Explained (kept (reached depth cs .device) t) (frames (history depth cs))
   explained =
       subst (λ (m : Mode). Explains (reached depth cs .device) m (frames (history depth cs))) two
       (calls-explained (board-calls.fresh-of depth) cs [] (fresh-board-well depth sound) tt)
 
   -- A buffer is said to hold a complete frame, of so many words, just if the history says so.
-  pub complete-frames : (u : Buffer) → complete-of u (kept (reached depth cs .device) t) ≡ complete-in u (frames (history depth cs))
+  pub complete-frames : (u : Buffer) → complete-of u (kept (reached depth cs .device) t) ≡ how-many (complete-in u (frames (history depth cs)))
   complete-frames u = rw (explained .keeps, explained .tells) (complete-is-history (explained .since) u)
 
   -- The latest complete frame is the one that the history says.
-  pub latest-frame : latest-complete t ≡ latest-in (frames (history depth cs))
-  latest-frame = ap (λ (k : Kept). latest-complete (k .turns)) (explained .keeps) ∙ latest-is-history (explained .since) ∙ ap latest-in (sym (explained .tells))
+  pub latest-frame : latest-complete t ≡ which (latest-in (frames (history depth cs)))
+  latest-frame = ap (λ (k : Kept). latest-complete (k .turns)) (explained .keeps) ∙ latest-is-history (explained .since) ∙ ap (λ (fs : List Tale). which (latest-in fs)) (sym (explained .tells))

@@ -4,3 +4,6 @@ pub mod AsDevice
 pub mod DeviceLaws
 pub mod CompleteFrames
 pub mod AsBefore
+pub mod InBuffers
+pub mod SampleHolds
+pub mod HandedBack

@@ -1,2 +1,3 @@
 pub mod BoardHistories
 pub mod BoardBefore
+pub mod Handing

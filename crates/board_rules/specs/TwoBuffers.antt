@@ -39,7 +39,7 @@ landing-event (some byte) = story.landed ∷ []
 
 abbrev pub word-event : Packed → List story.Event
 word-event nothing = []
-word-event (completed v) = story.held ∷ []
+word-event (completed v) = story.held v ∷ []
 word-event lost = story.lost ∷ []
 
 abbrev pub closes : Capture → Captured → Bool

@@ -1,16 +1,17 @@
 -- What holds of the story's frames after every list of events (`Sound`): each has counts that fit, no word of it lands while an older one waits, and only the newest may be open.
 -- By induction on the frames, an event at a time. Assumes nothing.
 use mathlib.Core.Bool.{Bool, true, false, cond, not, _&&_, _||_, true≢false, false≢true}
-use mathlib.Core.List.{List, [], _∷_, map}
+use mathlib.Core.List.{List, [], _∷_, _++_, map}
 use mathlib.Core.Path.{_≡_, refl, sym, ap, _∙_}
-use Prim.Native.Nat.{_≤_}
+use Prim.Native.Nat.{ℕ, _≤_}
 use native.Mathlib.Omega.{arith}
 use lib.Dec.{ltb}
+use lib.ListN.{length, length-append}
 use borrow.Author.Tests.{ltb-true}
 use Rattle.bits.proofs.Booleans.{or-false, and-true, by-cond, either}
 use Rattle.buffers.specs.declared.Buffer.the-variants.{A}
 use Rattle.buffers.specs.Turns.{other}
-use Rattle.buffers.specs.Story.{Tale, running, waiting, any-waiting, last-buffer, first-of, one-more, word-of, one-landed, landing-of, end-of, closed-otherwise, armed-anew}
+use Rattle.buffers.specs.Story.{Tale, completed, running, waiting, any-waiting, last-buffer, first-of, one-more, word-of, one-landed, landing-of, end-of, closed-otherwise, armed-anew}
 
 -- Whether the newest frame is the open one.
 abbrev pub any-open : List Tale → Bool
@@ -19,8 +20,8 @@ any-open (f ∷ fs) = running f
 
 pub record Counts (f : Tale) : Type 0 where
   pub recent : f .since ≤ f .landed
-  pub part : f .landed ≤ f .completed
-  pub filled : 1 ≤ f .completed
+  pub part : f .landed ≤ completed f
+  pub filled : f .gone ≡ false → 1 ≤ completed f
 
 -- Of each frame: its counts; no word of it has landed while an older one waits; and no older one is open.
 abbrev pub Sound : List Tale → Type 0
@@ -29,7 +30,7 @@ Sound (f ∷ fs) = Counts f × (any-waiting fs ≡ true → f .landed ≡ 0) × 
 
 -- The oldest frame that waits, if one does.
 unfoldable pub eldest : List Tale → Tale
-eldest [] = first-of A
+eldest [] = first-of [] A
 eldest (f ∷ fs) = cond (any-waiting fs) (eldest fs) f
 
 contra : {P : Type 0} {b : Bool} → b ≡ true → b ≡ false → P
@@ -68,8 +69,8 @@ last-landing (f ∷ fs) =
 
 landed-counts : (f : Tale) → Counts f → waiting f ≡ true → Counts (one-landed f)
 landed-counts f c w =
-    let less = ltb-true (f .landed) (f .completed) (and-true (not (f .gone)) (ltb (f .landed) (f .completed)) w .1) in
-    record { recent = omega arith; part = omega arith; filled = omega arith }
+    let less = ltb-true (f .landed) (completed f) (and-true (not (f .gone)) (ltb (f .landed) (completed f)) w .1) in
+    record { recent = omega arith; part = omega arith; filled = c .filled }
 
 pub sound-landing : (fs : List Tale) → Sound fs → Sound (landing-of fs)
 unfolding landing-of
@@ -80,25 +81,27 @@ sound-landing (f ∷ fs) s =
     (λ n. by-cond Sound (waiting f) _ _ (λ w. (landed-counts f (s .0) w, λ v. contra v n, s .2, s .3)) (λ v. s))
 
 -- A word.
-pub sound-word : (fs : List Tale) → Sound fs → Sound (word-of fs)
+pub sound-word : (v : ℕ) (fs : List Tale) → Sound fs → Sound (word-of (v ∷ []) fs)
 unfolding word-of any-waiting
-sound-word [] s = (record { recent = omega arith; part = omega arith; filled = omega arith }, λ e. refl, refl, tt)
-sound-word (f ∷ fs) s =
+sound-word v [] s = (record { recent = omega arith; part = omega arith; filled = λ z. omega arith }, λ e. refl, refl, tt)
+sound-word v (f ∷ fs) s =
     by-cond Sound (running f) _ _
-    (λ e. let c = s .0 in (record { recent = omega arith; part = omega arith; filled = omega arith }, s .1, s .2, s .3))
-    (λ e. (record { recent = omega arith; part = omega arith; filled = omega arith }, λ e. refl, e, s))
+    (λ e.
+    let c = s .0 in
+    (record { recent = c .recent; part = rw length-append (omega (arith, c .part)); filled = λ z. rw length-append (omega arith) }, s .1, s .2, s .3))
+    (λ e. (record { recent = omega arith; part = omega arith; filled = λ z. omega arith }, λ e. refl, e, s))
 
-pub open-word : (fs : List Tale) → any-open (word-of fs) ≡ true
+pub open-word : (vs : List ℕ) (fs : List Tale) → any-open (word-of vs fs) ≡ true
 unfolding word-of
-open-word [] = refl
-open-word (f ∷ fs) = by-cond (λ (l : List Tale). any-open l ≡ true) (running f) _ _ (λ e. e) (λ e. refl)
+open-word vs [] = refl
+open-word vs (f ∷ fs) = by-cond (λ (l : List Tale). any-open l ≡ true) (running f) _ _ (λ e. e) (λ e. refl)
 
-pub last-word : (fs : List Tale) → last-buffer (word-of fs) ≡ cond (any-open fs) (last-buffer fs) (other (last-buffer fs))
+pub last-word : (vs : List ℕ) (fs : List Tale) → last-buffer (word-of vs fs) ≡ cond (any-open fs) (last-buffer fs) (other (last-buffer fs))
 unfolding word-of
-last-word [] = refl
-last-word (f ∷ fs) = go (running f)
+last-word vs [] = refl
+last-word vs (f ∷ fs) = go (running f)
   where
-    go : (b : Bool) → last-buffer (cond b (one-more f ∷ fs) (first-of (other (f .buffer)) ∷ f ∷ fs)) ≡ cond b (f .buffer) (other (f .buffer))
+    go : (b : Bool) → last-buffer (cond b (one-more vs f ∷ fs) (first-of vs (other (f .buffer)) ∷ f ∷ fs)) ≡ cond b (f .buffer) (other (f .buffer))
     go true = refl
     go false = refl
 
@@ -121,7 +124,7 @@ open-end (f ∷ fs) = by-cond (λ (l : List Tale). any-open l ≡ false) (runnin
 
 -- Discarding: nothing waits, and nothing is open.
 not-open : (f : Tale) → running (closed-otherwise f) ≡ false
-not-open f = go (f .ended) (f .gone) (ltb (f .landed) (f .completed))
+not-open f = go (f .ended) (f .gone) (ltb (f .landed) (completed f))
   where
     go : (e g l : Bool) → not e && not (g || ((not e && not g) || (not g && l))) ≡ false
     go true g l = refl
@@ -129,7 +132,7 @@ not-open f = go (f .ended) (f .gone) (ltb (f .landed) (f .completed))
     go false false l = refl
 
 not-waiting : (f : Tale) → waiting (closed-otherwise f) ≡ false
-not-waiting f = go (f .ended) (f .gone) (ltb (f .landed) (f .completed))
+not-waiting f = go (f .ended) (f .gone) (ltb (f .landed) (completed f))
   where
     go : (e g l : Bool) → not (g || ((not e && not g) || (not g && l))) && l ≡ false
     go true true l = refl
@@ -155,7 +158,24 @@ pub sound-closed : (fs : List Tale) → Sound fs → Sound (map closed-otherwise
 sound-closed [] s = tt
 sound-closed (f ∷ fs) s =
     let c = s .0 in
-    (record { recent = c .recent; part = c .part; filled = c .filled }, λ e. contra e (waiting-closed fs), open-closed fs, sound-closed fs (s .3))
+    (record { recent = c .recent; part = c .part; filled = λ g. c .filled (or-false (f .gone) _ g .0) }, λ e. contra e (waiting-closed fs), open-closed fs, sound-closed fs (s .3))
+
+-- A word that is lost, with the frame.
+pub sound-lost : (fs : List Tale) → Sound fs → Sound (map closed-otherwise (word-of [] fs))
+unfolding word-of
+sound-lost [] s = (record { recent = omega arith; part = omega arith; filled = λ e. absurd (true≢false e) }, λ e. refl, refl, tt)
+sound-lost (f ∷ fs) s =
+    by-cond (λ (l : List Tale). Sound (map closed-otherwise l)) (running f) _ _
+    (λ e. let t = sound-closed (f ∷ fs) s in let c = s .0 in (record { recent = c .recent; part = rw length-append (omega (arith, c .part)); filled = λ g. absurd (true≢false (sym (lost-gone f e) ∙ g)) }, t .1, t .2, t .3))
+    (λ e. (record { recent = omega arith; part = omega arith; filled = λ e. absurd (true≢false e) }, λ e. refl, open-closed (f ∷ fs), sound-closed (f ∷ fs) s))
+  where
+    lost-gone : (f : Tale) → running f ≡ true → closed-otherwise (one-more [] f) .gone ≡ true
+    lost-gone f e = go (f .gone) (running f) e
+      where
+        go : (b c : Bool) → c ≡ true → b || (c || (not b && ltb (f .landed) (length (f .words ++ [])))) ≡ true
+        go true c e = refl
+        go false true e = refl
+        go false false e = absurd (false≢true e)
 
 -- Re-arming.
 pub waiting-armed : (fs : List Tale) → any-waiting (map armed-anew fs) ≡ any-waiting fs

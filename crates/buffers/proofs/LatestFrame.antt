@@ -19,10 +19,10 @@ use Rattle.buffers.specs.declared.Content.the-variants.{Nothing, Landing
 use Rattle.buffers.specs.declared.Turns.{Turns}
 use Rattle.buffers.specs.Turns as rules
 use Rattle.buffers.specs.Turns.{other, is-b, fresh-turns, with-turn, with-tags, with-place-b, with-latest, with-content, content, first-word, word-held, word-lost, oldest-buffer, oldest-opens, oldest-place, is-landing, frame-over, last-of-frame, word-landed, frame-ended, is-complete, latest-complete}
-use Rattle.buffers.specs.Story.{Event, held, lost, landed, ended, discarded, rearmed, Tale, waiting, any-waiting, last-buffer, running, word-of, landing-of, one-landed, end-of, closed-otherwise, armed-anew, tell, story, same, frame-in, complete, buffer-if-complete, latest-in}
+use Rattle.buffers.specs.Story.{Event, held, lost, landed, ended, discarded, rearmed, Tale, completed, waiting, any-waiting, last-buffer, running, word-of, landing-of, one-landed, end-of, closed-otherwise, armed-anew, tell, story, same, frame-in, complete, if-complete, complete-in, latest-in, which}
 use Rattle.buffers.specs.Kept.{Kept, start, landed-at, keep, keeps}
 use Rattle.buffers.proofs.Frames.{any-open, Counts, Sound, eldest, eldest-waits, eldest-counts, none-lands}
-use Rattle.buffers.proofs.Tags.{Tag, in-b, opening, weigh-first, tag-of, queue, queue-landing, over, queue-over}
+use Rattle.buffers.proofs.Tags.{Tag, in-b, opening, weigh-first, tag-of, queue, queue-landing, over, is-open, queue-over}
 use Rattle.buffers.proofs.Sights.{Sight, state, sight, sight-of, sight-in, skip, same-same, same-is, frame-eldest, ended-content, sight-word, sight-closed, sight-armed, end-none, open-landed, sight-end-held, sight-end-over, landed-content, sight-landing}
 use Rattle.buffers.proofs.Told.{Tells, told-with, told, is-told, held-waiting, choice, last-is, oldest-is, kept, tells-start}
 
@@ -31,10 +31,10 @@ unfoldable newest : List Tale → Buffer
 newest [] = A
 newest (f ∷ fs) = cond (ltb 0 (f .landed)) (f .buffer) (newest fs)
 
-newest-word : (fs : List Tale) → newest (word-of fs) ≡ newest fs
+newest-word : (vs : List ℕ) (fs : List Tale) → newest (word-of vs fs) ≡ newest fs
 unfolding newest word-of
-newest-word [] = refl
-newest-word (f ∷ fs) = either (λ (l : List Tale). newest l ≡ newest (f ∷ fs)) (running f) refl refl
+newest-word vs [] = refl
+newest-word vs (f ∷ fs) = either (λ (l : List Tale). newest l ≡ newest (f ∷ fs)) (running f) refl refl
 
 newest-closed : (fs : List Tale) → newest (map closed-otherwise fs) ≡ newest fs
 unfolding newest
@@ -50,7 +50,7 @@ newest-end (f ∷ fs) = either (λ (l : List Tale). newest l ≡ newest (f ∷ f
 newest-open : (fs : List Tale) → Sound fs → any-open fs ≡ true → any-waiting fs ≡ false → newest fs ≡ last-buffer fs
 unfolding newest
 newest-open [] s e w = absurd (false≢true e)
-newest-open (f ∷ fs) s e w = let c = s .0 in rw (lt-ltb 0 (f .landed) (omega (arith, open-landed f fs s e w)))
+newest-open (f ∷ fs) s e w = let c = s .0 .filled (is-open f e .1) in rw (lt-ltb 0 (f .landed) (omega (arith, open-landed f fs s e w)))
 
 newest-landing : (fs : List Tale) → Sound fs → any-waiting fs ≡ true → newest (landing-of fs) ≡ eldest fs .buffer
 unfolding newest landing-of any-waiting eldest
@@ -76,20 +76,24 @@ complete-state n l m e le le′ = go (eqb n l) refl
     go false q = rw (q, ne-eqb n m (λ z. eqb-false n l q (omega arith)), and-zero e)
 
 complete-sight : (f : Tale) → Counts f → is-complete (sight f .content) ≡ complete f
-complete-sight f c = complete-state (f .since) (f .landed) (f .completed) (f .ended) (c .recent) (c .part)
+complete-sight f c = complete-state (f .since) (f .landed) (completed f) (f .ended) (c .recent) (c .part)
 
 abbrev knows : Buffer → List Tale → Bool
 knows u fs = is-complete (sight-in u fs .content)
 
-buffer-reads : (u : Buffer) (fs : List Tale) → Sound fs → buffer-if-complete (frame-in u fs) ≡ cond (knows u fs) (some u) none
-unfolding frame-in buffer-if-complete
+buffer-reads : (u : Buffer) (fs : List Tale) → Sound fs → which (complete-in u fs) ≡ cond (knows u fs) (some u) none
+unfolding complete-in frame-in if-complete which
 buffer-reads u [] s = refl
 buffer-reads u (f ∷ fs) s = go (same u (f .buffer)) (ltb 0 (f .landed)) refl (buffer-reads u fs (s .3))
   where
-    go : (b c : Bool) → same u (f .buffer) ≡ b → buffer-if-complete (frame-in u fs) ≡ cond (knows u fs) (some u) none
+    known : (b : Bool) → which (cond b (some f) none) ≡ cond b (some (f .buffer)) none
+    known true = refl
+    known false = refl
+
+    go : (b c : Bool) → same u (f .buffer) ≡ b → which (if-complete (frame-in u fs)) ≡ cond (knows u fs) (some u) none
         → let o = cond (b && c) (some f) (frame-in u fs) in
-        buffer-if-complete o ≡ cond (is-complete (sight-of o .content)) (some u) none
-    go true true e rest = rw (complete-sight f (s .0), same-is u (f .buffer) e)
+        which (if-complete o) ≡ cond (is-complete (sight-of o .content)) (some u) none
+    go true true e rest = rw (complete-sight f (s .0), same-is u (f .buffer) e) (known (complete f))
     go true false e rest = rest
     go false c e rest = rest
 
@@ -97,20 +101,26 @@ buffer-reads u (f ∷ fs) s = go (same u (f .buffer)) (ltb 0 (f .landed)) refl (
 abbrev chosen : Buffer → Bool → Bool → Option Buffer
 chosen u one else = cond one (some u) (cond else (some (other u)) none)
 
-latest-reads : (fs : List Tale) → Sound fs → latest-in fs ≡ chosen (newest fs) (knows (newest fs) fs) (knows (other (newest fs)) fs)
-unfolding newest latest-in frame-in
+latest-reads : (fs : List Tale) → Sound fs → which (latest-in fs) ≡ chosen (newest fs) (knows (newest fs) fs) (knows (other (newest fs)) fs)
+unfolding newest latest-in frame-in which
 latest-reads [] s = refl
 latest-reads (f ∷ fs) s = go (ltb 0 (f .landed)) refl (latest-reads fs (s .3))
   where
+    known : (b : Bool) → which (cond b (some f) (complete-in (other (f .buffer)) fs)) ≡ cond b (some (f .buffer)) (which (complete-in (other (f .buffer)) fs))
+    known true = unfold which in refl
+    known false = refl
+
     not-other : (u : Buffer) → same (other u) u ≡ false
     not-other A = refl
     not-other B = refl
 
-    go : (b : Bool) → ltb 0 (f .landed) ≡ b → latest-in fs ≡ chosen (newest fs) (knows (newest fs) fs) (knows (other (newest fs)) fs)
+    go : (b : Bool) → ltb 0 (f .landed) ≡ b → which (latest-in fs) ≡ chosen (newest fs) (knows (newest fs) fs) (knows (other (newest fs)) fs)
         → let u = cond b (f .buffer) (newest fs) in
-        cond b (cond (complete f) (some (f .buffer)) (buffer-if-complete (frame-in (other (f .buffer)) fs))) (latest-in fs)
+        which (cond b (cond (complete f) (some f) (complete-in (other (f .buffer)) fs)) (latest-in fs))
         ≡ chosen u (knows u (f ∷ fs)) (knows (other u) (f ∷ fs))
-    go true e rest = rw (e, same-same (f .buffer), not-other (f .buffer), complete-sight f (s .0), buffer-reads (other (f .buffer)) fs (s .3))
+    go true e rest =
+        rw (e, same-same (f .buffer), not-other (f .buffer), complete-sight f (s .0))
+        (known (complete f) ∙ ap (λ (o : Option Buffer). cond (complete f) (some (f .buffer)) o) (buffer-reads (other (f .buffer)) fs (s .3)))
     go false e rest =
         let z : f .landed ≡ 0 = omega (arith, ltb-false 0 (f .landed) e) in
         rw (skip (newest fs) f fs z, skip (other (newest fs)) f fs z) rest
@@ -137,7 +147,7 @@ told-content : (u : Buffer) (ts : List Tag) (l : Buffer) (fs : List Tale) → co
 told-content A ts l fs = refl
 told-content B ts l fs = refl
 
-latest-told : (l : Buffer) (fs : List Tale) → Sound fs → Leads l fs → latest-complete (told l fs .turns) ≡ latest-in fs
+latest-told : (l : Buffer) (fs : List Tale) → Sound fs → Leads l fs → latest-complete (told l fs .turns) ≡ which (latest-in fs)
 unfolding latest-complete
 latest-told l fs s lead =
     rw (told-content l (queue fs) l fs, told-content (other l) (queue fs) l fs) (chosen-by l (newest fs) (λ u. knows u fs) lead) ∙ sym (latest-reads fs s)
@@ -150,18 +160,18 @@ first-latest : (t : Turns) → first-word t .latest ≡ t .latest
 unfolding first-word with-turn
 first-latest t = either (λ (x : Turns). x .latest ≡ t .latest) (t .begun) refl refl
 
-leads-held : (l : Buffer) (fs : List Tale) → Leads l fs → Leads (keep (told l fs) held .turns .latest) (word-of fs)
+leads-held : (l : Buffer) (v : ℕ) (fs : List Tale) → Leads l fs → Leads (keep (told l fs) (held v) .turns .latest) (word-of (v ∷ []) fs)
 unfolding keep word-held with-tags
-leads-held l fs lead = rw (first-latest (told l fs .turns)) (leads-on l fs (word-of fs) (newest-word fs) (λ u. sight-word u fs) lead)
+leads-held l v fs lead = rw (first-latest (told l fs .turns)) (leads-on l fs (word-of (v ∷ []) fs) (newest-word (v ∷ []) fs) (λ u. sight-word u (v ∷ []) fs) lead)
 
 leads-closed : (l : Buffer) (fs : List Tale) → Leads l fs → Leads l (map closed-otherwise fs)
 leads-closed l fs lead = leads-on l fs (map closed-otherwise fs) (newest-closed fs) (λ u. sight-closed u fs) lead
 
-leads-lost : (l : Buffer) (fs : List Tale) → Leads l fs → Leads (keep (told l fs) lost .turns .latest) (map closed-otherwise (word-of fs))
+leads-lost : (l : Buffer) (fs : List Tale) → Leads l fs → Leads (keep (told l fs) lost .turns .latest) (map closed-otherwise (word-of [] fs))
 unfolding keep word-lost rules.discarded with-tags with-turn
 leads-lost l fs lead =
     rw (first-latest (told l fs .turns))
-    (leads-closed l (word-of fs) (leads-on l fs (word-of fs) (newest-word fs) (λ u. sight-word u fs) lead))
+    (leads-closed l (word-of [] fs) (leads-on l fs (word-of [] fs) (newest-word [] fs) (λ u. sight-word u [] fs) lead))
 
 leads-discarded : (l : Buffer) (fs : List Tale) → Leads l fs → Leads (keep (told l fs) discarded .turns .latest) (map closed-otherwise fs)
 unfolding keep rules.discarded with-tags with-turn
@@ -245,8 +255,8 @@ not-yet fs s w = go (eqb (eldest fs .landed) 0) refl
     go true z = refl
     go false z =
         let c = eldest-counts fs s w in
-        let less = ltb-true (g .landed) (g .completed) (and-true (not (g .gone)) (ltb (g .landed) (g .completed)) (eldest-waits fs w) .1) in
-        rw (frame-eldest fs s w z, complete-sight g c, ne-eqb (g .since) (g .completed) (λ q. omega arith)) (and-zero (g .ended))
+        let less = ltb-true (g .landed) (completed g) (and-true (not (g .gone)) (ltb (g .landed) (completed g)) (eldest-waits fs w) .1) in
+        rw (frame-eldest fs s w z, complete-sight g c, ne-eqb (g .since) (completed g) (λ q. omega arith)) (and-zero (g .ended))
 
 leads-landed : (l : Buffer) (fs : List Tale) → Sound fs → Leads l fs → Leads (keep (told l fs) landed .turns .latest) (landing-of fs)
 leads-landed l fs s lead = go (any-waiting fs) refl
@@ -267,27 +277,27 @@ leads-landed l fs s lead = go (any-waiting fs) refl
 -- Every event, and every list of events.
 leads-told : (l : Buffer) (fs : List Tale) (e : Event) → Sound fs → Leads l fs → Leads (keep (told l fs) e .turns .latest) (tell fs e)
 unfolding tell
-leads-told l fs held s lead = leads-held l fs lead
+leads-told l fs (held v) s lead = leads-held l v fs lead
 leads-told l fs lost s lead = leads-lost l fs lead
 leads-told l fs landed s lead = leads-landed l fs s lead
 leads-told l fs ended s lead = leads-ended l fs s lead
 leads-told l fs discarded s lead = leads-discarded l fs lead
 leads-told l fs rearmed s lead = leads-rearmed (keep (told l fs) rearmed .turns .latest) fs
 
-all-answer : (k : Kept) (fs : List Tale) (es : List Event) → Tells k fs → Leads (k .turns .latest) fs → latest-complete (keeps k es .turns) ≡ latest-in (story fs es)
+all-answer : (k : Kept) (fs : List Tale) (es : List Event) → Tells k fs → Leads (k .turns .latest) fs → latest-complete (keeps k es .turns) ≡ which (latest-in (story fs es))
 unfolding keeps story
-all-answer k fs [] t lead = subst (λ (x : Kept). latest-complete (x .turns) ≡ latest-in fs) (is-told k fs t) (latest-told (k .turns .latest) fs (t .sound) lead)
+all-answer k fs [] t lead = subst (λ (x : Kept). latest-complete (x .turns) ≡ which (latest-in fs)) (is-told k fs t) (latest-told (k .turns .latest) fs (t .sound) lead)
 all-answer k fs (e ∷ es) t lead =
     all-answer (keep k e) (tell fs e) es (kept k fs e t)
     (subst (λ (x : Kept). Leads (keep x e .turns .latest) (tell fs e)) (is-told k fs t) (leads-told (k .turns .latest) fs e (t .sound) lead))
 
 -- The buffer handed back, if one is, is that of the latest complete frame by the history.
-pub latest-is-history : (es : List Event) → latest-complete (keeps start es .turns) ≡ latest-in (story [] es)
+pub latest-is-history : (es : List Event) → latest-complete (keeps start es .turns) ≡ which (latest-in (story [] es))
 unfolding frame-in
 latest-is-history es = all-answer start [] es tells-start (λ e. absurd (false≢true e))
 
 -- Both are complete, and B the latest; then a word is lost, whose turn was A's, and the first word of the next frame lands in B: A is the latest again.
-pub latest-cases : (latest-complete (keeps start (held ∷ landed ∷ ended ∷ held ∷ landed ∷ ended ∷ []) .turns) ≡ some B)
-    × (latest-complete (keeps start (held ∷ landed ∷ ended ∷ held ∷ landed ∷ ended ∷ lost ∷ held ∷ landed ∷ []) .turns) ≡ some A)
+pub latest-cases : (latest-complete (keeps start (held 7 ∷ landed ∷ ended ∷ held 7 ∷ landed ∷ ended ∷ []) .turns) ≡ some B)
+    × (latest-complete (keeps start (held 7 ∷ landed ∷ ended ∷ held 7 ∷ landed ∷ ended ∷ lost ∷ held 7 ∷ landed ∷ []) .turns) ≡ some A)
 unfolding start fresh-turns keeps keep latest-complete frame-ended with-turn landed-at oldest-buffer word-held word-lost with-tags first-word word-landed last-of-frame oldest-opens with-content frame-over with-latest oldest-place with-place-b rules.discarded
 latest-cases = (refl, refl)

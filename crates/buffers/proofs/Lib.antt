@@ -3,3 +3,5 @@ pub mod Tags
 pub mod Sights
 pub mod Told
 pub mod LatestFrame
+pub mod Words
+pub mod Found

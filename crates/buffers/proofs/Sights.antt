@@ -3,7 +3,7 @@
 use mathlib.Core.Bool.{Bool, true, false, cond, not, _&&_, _||_, false≢true}
 use mathlib.Core.List.{List, [], _∷_, map}
 use mathlib.Core.Option.{Option, none, some}
-use mathlib.Core.Path.{_≡_, refl, ap, _∙_}
+use mathlib.Core.Path.{_≡_, refl, sym, ap, _∙_}
 use Prim.Native.Nat.{ℕ, _+_, _≤_, _<_}
 use native.Mathlib.Omega.{arith}
 use lib.Dec.{eqb, ltb}
@@ -14,7 +14,7 @@ use Rattle.buffers.specs.declared.Buffer.the-variants.{A, B}
 use Rattle.buffers.specs.declared.Content.{Content}
 use Rattle.buffers.specs.declared.Content.the-variants.{Nothing, Landing, Complete}
 use Rattle.buffers.specs.Turns.{other, is-landing, is-complete}
-use Rattle.buffers.specs.Story.{Tale, running, waiting, any-waiting, last-buffer, first-of, one-more, word-of, one-landed, landing-of, by-rule-4, end-of, closed-otherwise, armed-anew, same, frame-in, words-if-complete}
+use Rattle.buffers.specs.Story.{Tale, completed, running, waiting, any-waiting, last-buffer, first-of, one-more, word-of, one-landed, landing-of, by-rule-4, end-of, closed-otherwise, armed-anew, same, frame-in, complete, if-complete, how-many}
 use Rattle.buffers.proofs.Frames.{any-open, Sound, eldest, eldest-waits, eldest-counts}
 use Rattle.buffers.proofs.Tags.{over, is-open}
 
@@ -27,7 +27,7 @@ abbrev pub state : ℕ → ℕ → ℕ → Bool → Content
 state since landed completed ended = cond (eqb since landed) (cond (ended && eqb landed completed) Complete Landing) Nothing
 
 abbrev pub sight : Tale → Sight
-sight f = record { content = state (f .since) (f .landed) (f .completed) (f .ended); place = f .since }
+sight f = record { content = state (f .since) (f .landed) (completed f) (f .ended); place = f .since }
 
 abbrev pub sight-of : Option Tale → Sight
 sight-of none = record { content = Nothing; place = 0 }
@@ -45,13 +45,13 @@ unfolding frame-in
 skip u f fs z = rw (le-ltb 0 (f .landed) (omega arith), and-zero (same u (f .buffer)))
 
 -- A word changes nothing: the frame that has one more is open.
-pub sight-word : (u : Buffer) (fs : List Tale) → sight-in u (word-of fs) ≡ sight-in u fs
+pub sight-word : (u : Buffer) (vs : List ℕ) (fs : List Tale) → sight-in u (word-of vs fs) ≡ sight-in u fs
 unfolding frame-in word-of
-sight-word u [] = ap sight-of (skip u (first-of A) [] refl)
-sight-word u (f ∷ fs) =
-    by-cond (λ (l : List Tale). sight-in u l ≡ sight-in u (f ∷ fs)) (running f) _ _ (λ e. go (is-in u f) (is-open f e .0)) (λ e. ap sight-of (skip u (first-of (other (f .buffer))) (f ∷ fs) refl))
+sight-word u vs [] = ap sight-of (skip u (first-of vs A) [] refl)
+sight-word u vs (f ∷ fs) =
+    by-cond (λ (l : List Tale). sight-in u l ≡ sight-in u (f ∷ fs)) (running f) _ _ (λ e. go (is-in u f) (is-open f e .0)) (λ e. ap sight-of (skip u (first-of vs (other (f .buffer))) (f ∷ fs) refl))
   where
-    go : (c : Bool) → f .ended ≡ false → sight-of (cond c (some (one-more f)) (frame-in u fs)) ≡ sight-of (cond c (some f) (frame-in u fs))
+    go : (c : Bool) → f .ended ≡ false → sight-of (cond c (some (one-more vs f)) (frame-in u fs)) ≡ sight-of (cond c (some f) (frame-in u fs))
     go true e = rw e
     go false e = refl
 
@@ -87,13 +87,13 @@ unfolding end-of
 end-none [] e = refl
 end-none (f ∷ fs) e = rw e
 
-open-waits : (f : Tale) (fs : List Tale) → Sound (f ∷ fs) → running f ≡ true → any-waiting (f ∷ fs) ≡ true → f .landed < f .completed
+open-waits : (f : Tale) (fs : List Tale) → Sound (f ∷ fs) → running f ≡ true → any-waiting (f ∷ fs) ≡ true → f .landed < completed f
 unfolding any-waiting
-open-waits f fs s e w = go (ltb (f .landed) (f .completed)) (any-waiting fs) refl refl w
+open-waits f fs s e w = go (ltb (f .landed) (completed f)) (any-waiting fs) refl refl w
   where
-    go : (b c : Bool) → ltb (f .landed) (f .completed) ≡ b → any-waiting fs ≡ c → (not (f .gone) && ltb (f .landed) (f .completed)) || any-waiting fs ≡ true → f .landed < f .completed
+    go : (b c : Bool) → ltb (f .landed) (completed f) ≡ b → any-waiting fs ≡ c → (not (f .gone) && ltb (f .landed) (completed f)) || any-waiting fs ≡ true → f .landed < completed f
     go true c l v w = ltb-true _ _ l
-    go false true l v w = let p = s .0 in omega (arith, s .1 v)
+    go false true l v w = omega (arith, s .1 v, s .0 .filled (is-open f e .1))
     go false false l v w = absurd (false≢true (rw (l, v, and-zero (not (f .gone))) at w))
 
 pub sight-end-held : (u : Buffer) (fs : List Tale) → Sound fs → any-waiting fs ≡ true → sight-in u (end-of fs) ≡ sight-in u fs
@@ -102,16 +102,16 @@ sight-end-held u [] s w = refl
 sight-end-held u (f ∷ fs) s w =
     by-cond (λ (l : List Tale). sight-in u l ≡ sight-in u (f ∷ fs)) (running f) _ _ (λ e. go (is-in u f) (open-waits f fs s e w)) (λ e. refl)
   where
-    go : (c : Bool) → f .landed < f .completed → sight-of (cond c (some (by-rule-4 f)) (frame-in u fs)) ≡ sight-of (cond c (some f) (frame-in u fs))
-    go true less = rw (ne-eqb (f .landed) (f .completed) (λ z. omega arith), and-zero (f .ended))
+    go : (c : Bool) → f .landed < completed f → sight-of (cond c (some (by-rule-4 f)) (frame-in u fs)) ≡ sight-of (cond c (some f) (frame-in u fs))
+    go true less = rw (ne-eqb (f .landed) (completed f) (λ z. omega arith), and-zero (f .ended))
     go false less = refl
 
-pub open-landed : (f : Tale) (fs : List Tale) → Sound (f ∷ fs) → running f ≡ true → any-waiting (f ∷ fs) ≡ false → f .landed ≡ f .completed
+pub open-landed : (f : Tale) (fs : List Tale) → Sound (f ∷ fs) → running f ≡ true → any-waiting (f ∷ fs) ≡ false → f .landed ≡ completed f
 unfolding any-waiting
 open-landed f fs s e w =
     let less = or-false (waiting f) (any-waiting fs) w .0 in
     let c = s .0 in
-    omega (arith, ltb-false (f .landed) (f .completed) (rw (is-open f e .1) at less))
+    omega (arith, ltb-false (f .landed) (completed f) (rw (is-open f e .1) at less))
 
 pub sight-end-over : (u : Buffer) (fs : List Tale) → Sound fs → any-open fs ≡ true → any-waiting fs ≡ false
     → sight-in u (end-of fs) ≡ cond (same u (last-buffer fs)) (ended-sight (sight-in u fs)) (sight-in u fs)
@@ -119,12 +119,12 @@ unfolding frame-in end-of any-waiting
 sight-end-over u [] s e w = absurd (false≢true e)
 sight-end-over u (f ∷ fs) s e w = rw e (go (same u (f .buffer)) (eqb (f .since) (f .landed)))
   where
-    all : f .landed ≡ f .completed
+    all : f .landed ≡ completed f
     all = open-landed f fs s e w
 
     go : (b c : Bool) → sight-of (cond (b && ltb 0 (f .landed)) (some (by-rule-4 f)) (frame-in u fs))
         ≡ cond b (ended-sight (sight-of (cond (b && ltb 0 (f .landed)) (some f) (frame-in u fs)))) (sight-of (cond (b && ltb 0 (f .landed)) (some f) (frame-in u fs)))
-    go true c = let p = s .0 in rw (lt-ltb 0 (f .landed) (omega (arith, all)), eq-eqb (f .landed) (f .completed) all, is-open f e .0) (by (eqb (f .since) (f .landed)))
+    go true c = let p = s .0 .filled (is-open f e .1) in rw (lt-ltb 0 (f .landed) (omega (arith, all)), eq-eqb (f .landed) (completed f) all, is-open f e .0) (by (eqb (f .since) (f .landed)))
       where
         by : (b : Bool) → _≡_ {A = Sight} (record { content = cond b Complete Nothing; place = f .since }) (record { content = ended-content (cond b Landing Nothing); place = f .since })
         by true = refl
@@ -207,14 +207,14 @@ sight-landing u fs s w = ap sight-of (frame-landing u fs s w) ∙ go (same u (el
         → sight-of (cond b (some (one-landed (eldest fs))) (frame-in u fs)) ≡ cond b (landed-sight (eqb (eldest fs .landed) 0) (over (eldest fs)) (sight-in u fs)) (sight-in u fs)
     go true e =
         let g = eldest fs in
-        one-landed-sight (g .since) (g .landed) (g .completed) (g .ended) (sight-in u fs) (eldest-counts fs s w .recent)
-        (ltb-true (g .landed) (g .completed) (and-true (not (g .gone)) (ltb (g .landed) (g .completed)) (eldest-waits fs w) .1))
+        one-landed-sight (g .since) (g .landed) (completed g) (g .ended) (sight-in u fs) (eldest-counts fs s w .recent)
+        (ltb-true (g .landed) (completed g) (and-true (not (g .gone)) (ltb (g .landed) (completed g)) (eldest-waits fs w) .1))
         (λ z. rw (same-is u (g .buffer) e) (ap sight-of (frame-eldest fs s w z)))
     go false e = refl
 
 -- What is known to be complete is complete.
-pub read-off : (u : Buffer) (fs : List Tale) → Sound fs → cond (is-complete (sight-in u fs .content)) (some (sight-in u fs .place)) none ≡ words-if-complete (frame-in u fs)
-unfolding frame-in words-if-complete
+pub read-off : (u : Buffer) (fs : List Tale) → Sound fs → cond (is-complete (sight-in u fs .content)) (some (sight-in u fs .place)) none ≡ how-many (if-complete (frame-in u fs))
+unfolding frame-in if-complete how-many
 read-off u [] s = refl
 read-off u (f ∷ fs) s = go (is-in u f) (read-off u fs (s .3))
   where
@@ -230,7 +230,11 @@ read-off u (f ∷ fs) s = go (is-in u f) (read-off u fs (s .3))
         back true q = rw (q, eqb-true n l q) (each e (eqb l m) refl)
         back false q = rw (q, ne-eqb n m (λ z. eqb-false n l q (omega arith)), and-zero e)
 
-    go : (b : Bool) → cond (is-complete (sight-in u fs .content)) (some (sight-in u fs .place)) none ≡ words-if-complete (frame-in u fs)
-        → let o = cond b (some f) (frame-in u fs) in cond (is-complete (sight-of o .content)) (some (sight-of o .place)) none ≡ words-if-complete o
-    go true rest = let c = s .0 in by (f .since) (f .landed) (f .completed) (f .ended) (c .recent) (c .part)
+    counted : (b : Bool) → how-many (cond b (some f) none) ≡ cond b (some (completed f)) none
+    counted true = refl
+    counted false = refl
+
+    go : (b : Bool) → cond (is-complete (sight-in u fs .content)) (some (sight-in u fs .place)) none ≡ how-many (if-complete (frame-in u fs))
+        → let o = cond b (some f) (frame-in u fs) in cond (is-complete (sight-of o .content)) (some (sight-of o .place)) none ≡ how-many (if-complete o)
+    go true rest = let c = s .0 in by (f .since) (f .landed) (completed f) (f .ended) (c .recent) (c .part) ∙ sym (counted (complete f))
     go false rest = rest

@@ -6,13 +6,13 @@ use mathlib.Core.Path.{_≡_, refl, sym, ap, _∙_}
 use Prim.Native.Nat.{ℕ, zero, suc, _+_, _-_, _*_, _/_, _%_, _^_, _≤_, _<_}
 use native.Mathlib.Omega.{arith}
 use lib.Dec.{eqb, ltb}
-use lib.ListN.{length}
+use lib.ListN.{length, length-append}
 use borrow.Author.Tests.{ltb-true, ltb-false, lt-ltb, eq-eqb, ne-eqb, not-true}
 use Rattle.bits.specs.Bits.{bit}
 use Rattle.bits.proofs.Booleans.{or-false, and-true, either, and-zero}
 use Rattle.buffers.specs.declared.Buffer.{Buffer}
 use Rattle.buffers.specs.Turns.{is-b}
-use Rattle.buffers.specs.Story.{Tale, running, waiting, any-waiting, last-buffer, one-more, word-of, one-landed, landing-of, end-of, armed-anew}
+use Rattle.buffers.specs.Story.{Tale, completed, running, waiting, any-waiting, last-buffer, one-more, word-of, one-landed, landing-of, end-of, armed-anew}
 use Rattle.buffers.proofs.Frames.{any-open, Counts, Sound, eldest}
 
 pub record Tag : Type 0 where
@@ -64,6 +64,11 @@ pub more : Buffer → ℕ → List Tag
 more u zero = []
 more u (suc n) = tag u false ∷ more u n
 
+pub more-length : (u : Buffer) (n : ℕ) → length (more u n) ≡ n
+unfolding more
+more-length u zero = refl
+more-length u (suc n) = ap suc (more-length u n)
+
 more-append : (u : Buffer) (n : ℕ) → more u n ++ (tag u false ∷ []) ≡ more u (suc n)
 unfolding more
 more-append u zero = refl
@@ -100,7 +105,7 @@ tags-landed u n m less = go (ltb (n + 1) m) refl
 
 -- The held words of a frame, and of all.
 abbrev pub tags-of : Tale → List Tag
-tags-of f = tags (f .buffer) (f .gone) (f .landed) (f .completed)
+tags-of f = tags (f .buffer) (f .gone) (f .landed) (completed f)
 
 abbrev pub tag-of : Tale → Tag
 tag-of f = tag (f .buffer) (eqb (f .landed) 0)
@@ -119,26 +124,26 @@ queue-none [] e = refl
 queue-none (f ∷ fs) e = let (a, b) = or-false (waiting f) (any-waiting fs) e in rw (queue-none fs b, a)
 
 -- A word comes last.
-frame-more : (f : Tale) → Counts f → f .gone ≡ false → tags-of (one-more f) ≡ tags-of f ++ (tag (f .buffer) false ∷ [])
-frame-more f c g = rw g (tags-more (f .buffer) (f .landed) (f .completed) (c .part) (c .filled))
+frame-more : (v : ℕ) (f : Tale) → Counts f → f .gone ≡ false → tags-of (one-more (v ∷ []) f) ≡ tags-of f ++ (tag (f .buffer) false ∷ [])
+frame-more v f c g = rw (g, length-append (f .words) (v ∷ [])) (tags-more (f .buffer) (f .landed) (completed f) (c .part) (c .filled g))
 
 pub is-open : (f : Tale) → running f ≡ true → (f .ended ≡ false) × (f .gone ≡ false)
 is-open f e = let (a, b) = and-true (not (f .ended)) (not (f .gone)) e in (not-true _ a, not-true _ b)
 
-pub queue-word : (fs : List Tale) → Sound fs → queue (word-of fs) ≡ queue fs ++ (tag (last-buffer (word-of fs)) (not (any-open fs)) ∷ [])
+pub queue-word : (v : ℕ) (fs : List Tale) → Sound fs → queue (word-of (v ∷ []) fs) ≡ queue fs ++ (tag (last-buffer (word-of (v ∷ []) fs)) (not (any-open fs)) ∷ [])
 unfolding queue word-of more
-queue-word [] s = refl
-queue-word (f ∷ fs) s = go (running f) refl
+queue-word v [] s = refl
+queue-word v (f ∷ fs) s = go (running f) refl
   where
-    go : (b : Bool) → running f ≡ b → queue (word-of (f ∷ fs)) ≡ queue (f ∷ fs) ++ (tag (last-buffer (word-of (f ∷ fs))) (not (running f)) ∷ [])
-    go true e = rw (e, frame-more f (s .0) (is-open f e .1)) (sym (append-assoc (queue fs) (tags-of f) (tag (f .buffer) false ∷ [])))
+    go : (b : Bool) → running f ≡ b → queue (word-of (v ∷ []) (f ∷ fs)) ≡ queue (f ∷ fs) ++ (tag (last-buffer (word-of (v ∷ []) (f ∷ fs))) (not (running f)) ∷ [])
+    go true e = rw (e, frame-more v f (s .0) (is-open f e .1)) (sym (append-assoc (queue fs) (tags-of f) (tag (f .buffer) false ∷ [])))
     go false e = rw e
 
 -- The oldest lands.
 frame-landed : (f : Tale) → waiting f ≡ true → tags-of f ≡ tag-of f ∷ tags-of (one-landed f)
 frame-landed f w =
-    let (g, l) = and-true (not (f .gone)) (ltb (f .landed) (f .completed)) w in
-    rw (not-true (f .gone) g) (tags-landed (f .buffer) (f .landed) (f .completed) (ltb-true _ _ l))
+    let (g, l) = and-true (not (f .gone)) (ltb (f .landed) (completed f)) w in
+    rw (not-true (f .gone) g) (tags-landed (f .buffer) (f .landed) (completed f) (ltb-true _ _ l))
 
 pub queue-landing : (fs : List Tale) → any-waiting fs ≡ true → queue fs ≡ tag-of (eldest fs) ∷ queue (landing-of fs)
 unfolding queue any-waiting landing-of eldest
@@ -157,7 +162,7 @@ next-opens [] begun = not begun
 next-opens (t ∷ ts) begun = t .opens
 
 abbrev pub over : Tale → Bool
-over f = f .ended && eqb (f .landed + 1) (f .completed)
+over f = f .ended && eqb (f .landed + 1) (completed f)
 
 over-tags : (u : Buffer) (ended : Bool) (n m : ℕ) → n < m → next-opens (tags u false (n + 1) m) (not ended && true) ≡ ended && eqb (n + 1) m
 over-tags u ended n m less = go (ltb (n + 1) m) refl
@@ -175,12 +180,12 @@ over-tags u ended n m less = go (ltb (n + 1) m) refl
 
 frame-over : (f : Tale) → waiting f ≡ true → next-opens (tags-of (one-landed f)) (running f) ≡ over f
 frame-over f w =
-    let (g, l) = and-true (not (f .gone)) (ltb (f .landed) (f .completed)) w in
-    rw (not-true (f .gone) g) (over-tags (f .buffer) (f .ended) (f .landed) (f .completed) (ltb-true _ _ l))
+    let (g, l) = and-true (not (f .gone)) (ltb (f .landed) (completed f)) w in
+    rw (not-true (f .gone) g) (over-tags (f .buffer) (f .ended) (f .landed) (completed f) (ltb-true _ _ l))
 
 opens-next : (f : Tale) → Counts f → f .landed ≡ 0 → (b : Bool) → f .gone ≡ b → next-opens (tags-of f) (running f) ≡ true
 opens-next f c z true g = rw (g, and-zero (not (f .ended)))
-opens-next f c z false g = rw (g, lt-ltb (f .landed) (f .completed) (omega arith)) (eq-eqb (f .landed) 0 z)
+opens-next f c z false g = rw (g, lt-ltb (f .landed) (completed f) (omega (arith, c .filled g))) (eq-eqb (f .landed) 0 z)
 
 next-frame : (ts : List Tag) (f : Tale) → Counts f → f .landed ≡ 0 → next-opens (ts ++ tags-of f) (running f) ≡ next-opens ts false
 next-frame [] f c z = opens-next f c z (f .gone) refl

@@ -18,9 +18,9 @@ use Rattle.buffers.specs.declared.Content.the-variants.{Nothing, Landing
 use Rattle.buffers.specs.declared.Turns.{Turns}
 use Rattle.buffers.specs.Turns as rules
 use Rattle.buffers.specs.Turns.{other, is-b, fresh-turns, with-turn, with-tags, with-place-b, with-latest, with-content, content, first-word, word-held, word-lost, oldest-buffer, oldest-opens, next-place, oldest-place, frame-over, last-of-frame, word-landed, frame-ended, is-complete}
-use Rattle.buffers.specs.Story.{Event, held, lost, landed, ended, discarded, rearmed, Tale, any-waiting, last-buffer, word-of, landing-of, end-of, closed-otherwise, armed-anew, tell, story, same, frame-in, complete-in}
+use Rattle.buffers.specs.Story.{Event, held, lost, landed, ended, discarded, rearmed, Tale, any-waiting, last-buffer, word-of, landing-of, end-of, closed-otherwise, armed-anew, tell, story, same, frame-in, complete-in, if-complete, how-many}
 use Rattle.buffers.specs.Kept.{Kept, start, landed-at, keep, keeps, place-in, complete-of}
-use Rattle.buffers.proofs.Frames.{any-open, Sound, eldest, none-lands, open-landing, last-landing, sound-landing, sound-word, open-word, last-word, last-end, sound-end, open-end, open-closed, waiting-closed, last-closed, sound-closed, open-armed, last-armed, sound-armed}
+use Rattle.buffers.proofs.Frames.{any-open, Sound, eldest, none-lands, open-landing, last-landing, sound-landing, sound-word, open-word, last-word, last-end, sound-end, open-end, open-closed, waiting-closed, last-closed, sound-closed, sound-lost, open-armed, last-armed, sound-armed}
 use Rattle.buffers.proofs.Tags.{Tag, in-b, opening, weigh, weigh-append, weigh-rest, weigh-first, tag-of, queue, queue-none, queue-word, queue-landing, next-opens, over, queue-over, queue-end, queue-armed}
 use Rattle.buffers.proofs.Sights.{Sight, sight-in, ended-content, sight-word, sight-closed, sight-armed, ended-sight, end-none, sight-end-held, sight-end-over, landed-content, landed-sight, sight-landing, read-off}
 
@@ -97,25 +97,25 @@ otherwise : (b : Bool) (x y : ℕ) → cond b x y ≡ cond (not b) y x
 otherwise true x y = refl
 otherwise false x y = refl
 
-kept-held : (l : Buffer) (fs : List Tale) → Sound fs → Tells (keep (told l fs) held) (word-of fs)
+kept-held : (l : Buffer) (v : ℕ) (fs : List Tale) → Sound fs → Tells (keep (told l fs) (held v)) (word-of (v ∷ []) fs)
 unfolding keep word-held with-tags with-turn
-kept-held l fs s =
+kept-held l v fs s =
     let k = told l fs in
     let q = queue fs in
     let t = k .turns in
     let h = length (queue fs) in
     subst
-    (λ (x : Turns). Tells (record { turns = with-tags (cond (is-b (x .turn)) (x .«in_b» + 2 ^ h) (x .«in_b»)) (cond (t .begun) (x .opening) (x .opening + 2 ^ h)) x; place-a = k .place-a; held = h + 1 }) (word-of fs))
+    (λ (x : Turns). Tells (record { turns = with-tags (cond (is-b (x .turn)) (x .«in_b» + 2 ^ h) (x .«in_b»)) (cond (t .begun) (x .opening) (x .opening + 2 ^ h)) x; place-a = k .place-a; held = h + 1 }) (word-of (v ∷ []) fs))
     (sym (switched t))
     (record {
-      last = sym (last-word fs);
-      running = sym (open-word fs);
-      count = rw (queue-word fs s, length-append q);
-      buffers = rw (queue-word fs s, weigh-append in-b q, last-word fs);
-      openings = rw (queue-word fs s, weigh-append opening q) (otherwise (any-open fs) _ _);
-      in-a = sym (sight-word A fs);
-      in-b = sym (sight-word B fs);
-      sound = sound-word fs s;
+      last = sym (last-word (v ∷ []) fs);
+      running = sym (open-word (v ∷ []) fs);
+      count = rw (queue-word v fs s, length-append q);
+      buffers = rw (queue-word v fs s, weigh-append in-b q, last-word (v ∷ []) fs);
+      openings = rw (queue-word v fs s, weigh-append opening q) (otherwise (any-open fs) _ _);
+      in-a = sym (sight-word A (v ∷ []) fs);
+      in-b = sym (sight-word B (v ∷ []) fs);
+      sound = sound-word v fs s;
     })
 
 -- The held words are discarded; a word that is lost switches first.
@@ -134,22 +134,22 @@ kept-discarded l fs s =
       sound = sound-closed fs s;
     }
 
-kept-lost : (l : Buffer) (fs : List Tale) → Sound fs → Tells (keep (told l fs) lost) (map closed-otherwise (word-of fs))
+kept-lost : (l : Buffer) (fs : List Tale) → Sound fs → Tells (keep (told l fs) lost) (map closed-otherwise (word-of [] fs))
 unfolding keep word-lost rules.discarded with-tags with-turn weigh
 kept-lost l fs s =
-    let none-held = queue-none (map closed-otherwise (word-of fs)) (waiting-closed (word-of fs)) in
+    let none-held = queue-none (map closed-otherwise (word-of [] fs)) (waiting-closed (word-of [] fs)) in
     let k = told l fs in
-    subst (λ (x : Turns). Tells (record { turns = rules.discarded x; place-a = k .place-a; held = 0 }) (map closed-otherwise (word-of fs)))
+    subst (λ (x : Turns). Tells (record { turns = rules.discarded x; place-a = k .place-a; held = 0 }) (map closed-otherwise (word-of [] fs)))
     (sym (switched (k .turns)))
     (record {
-      last = sym (last-closed (word-of fs) ∙ last-word fs);
-      running = sym (open-closed (word-of fs));
+      last = sym (last-closed (word-of [] fs) ∙ last-word [] fs);
+      running = sym (open-closed (word-of [] fs));
       count = rw none-held;
       buffers = rw none-held;
       openings = rw none-held;
-      in-a = sym (sight-closed A (word-of fs) ∙ sight-word A fs);
-      in-b = sym (sight-closed B (word-of fs) ∙ sight-word B fs);
-      sound = sound-closed (word-of fs) (sound-word fs s);
+      in-a = sym (sight-closed A (word-of [] fs) ∙ sight-word A [] fs);
+      in-b = sym (sight-closed B (word-of [] fs) ∙ sight-word B [] fs);
+      sound = sound-lost fs s;
     })
 
 -- Re-arming.
@@ -361,7 +361,7 @@ kept-landed l fs s = go (any-waiting fs) refl
 -- Every event, and every list of events.
 kept-told : (l : Buffer) (fs : List Tale) (e : Event) → Sound fs → Tells (keep (told l fs) e) (tell fs e)
 unfolding tell
-kept-told l fs held s = kept-held l fs s
+kept-told l fs (held v) s = kept-held l v fs s
 kept-told l fs lost s = kept-lost l fs s
 kept-told l fs landed s = kept-landed l fs s
 kept-told l fs ended s = kept-ended l fs s
@@ -371,7 +371,7 @@ kept-told l fs rearmed s = kept-rearmed l fs s
 pub kept : (k : Kept) (fs : List Tale) (e : Event) → Tells k fs → Tells (keep k e) (tell fs e)
 kept k fs e t = subst (λ (x : Kept). Tells (keep x e) (tell fs e)) (is-told k fs t) (kept-told (k .turns .latest) fs e (t .sound))
 
-all-kept : (k : Kept) (fs : List Tale) (es : List Event) → Tells k fs → Tells (keeps k es) (story fs es)
+pub all-kept : (k : Kept) (fs : List Tale) (es : List Event) → Tells k fs → Tells (keeps k es) (story fs es)
 unfolding keeps story
 all-kept k fs [] t = t
 all-kept k fs (e ∷ es) t = all-kept (keep k e) (tell fs e) es (kept k fs e t)
@@ -381,7 +381,7 @@ unfolding start fresh-turns queue weigh frame-in
 tells-start = tells-told A [] tt
 
 -- A buffer is said to hold a complete frame, of so many words, just if the history says so.
-pub complete-is-history : (es : List Event) (u : Buffer) → complete-of u (keeps start es) ≡ complete-in u (story [] es)
+pub complete-is-history : (es : List Event) (u : Buffer) → complete-of u (keeps start es) ≡ how-many (complete-in u (story [] es))
 unfolding complete-of complete-in
 complete-is-history es u = by u ∙ read-off u (story [] es) (t .sound)
   where
@@ -396,12 +396,12 @@ complete-is-history es u = by u ∙ read-off u (story [] es) (t .sound)
     by B = ap words (t .in-b)
 
 -- One word in A; then two in B, of which the last lands after the end; a re-arming between two words; words discarded; a word still held at the end; a third frame, in A again.
-pub cases : (complete-of A (keeps start (held ∷ landed ∷ ended ∷ [])) ≡ some 1)
-    × (complete-of A (keeps start (held ∷ ended ∷ held ∷ landed ∷ landed ∷ held ∷ ended ∷ landed ∷ [])) ≡ some 1)
-    × (complete-of B (keeps start (held ∷ ended ∷ held ∷ landed ∷ landed ∷ held ∷ ended ∷ landed ∷ [])) ≡ some 2)
-    × (complete-of A (keeps start (held ∷ held ∷ landed ∷ rearmed ∷ landed ∷ ended ∷ [])) ≡ none)
-    × (complete-of A (keeps start (held ∷ held ∷ landed ∷ discarded ∷ ended ∷ [])) ≡ none)
-    × (complete-of A (keeps start (held ∷ held ∷ landed ∷ ended ∷ [])) ≡ none)
-    × (complete-of A (keeps start (held ∷ landed ∷ ended ∷ held ∷ landed ∷ ended ∷ held ∷ landed ∷ ended ∷ [])) ≡ some 1)
+pub cases : (complete-of A (keeps start (held 7 ∷ landed ∷ ended ∷ [])) ≡ some 1)
+    × (complete-of A (keeps start (held 7 ∷ ended ∷ held 7 ∷ landed ∷ landed ∷ held 7 ∷ ended ∷ landed ∷ [])) ≡ some 1)
+    × (complete-of B (keeps start (held 7 ∷ ended ∷ held 7 ∷ landed ∷ landed ∷ held 7 ∷ ended ∷ landed ∷ [])) ≡ some 2)
+    × (complete-of A (keeps start (held 7 ∷ held 7 ∷ landed ∷ rearmed ∷ landed ∷ ended ∷ [])) ≡ none)
+    × (complete-of A (keeps start (held 7 ∷ held 7 ∷ landed ∷ discarded ∷ ended ∷ [])) ≡ none)
+    × (complete-of A (keeps start (held 7 ∷ held 7 ∷ landed ∷ ended ∷ [])) ≡ none)
+    × (complete-of A (keeps start (held 7 ∷ landed ∷ ended ∷ held 7 ∷ landed ∷ ended ∷ held 7 ∷ landed ∷ ended ∷ [])) ≡ some 1)
 unfolding start fresh-turns keeps keep complete-of frame-ended with-turn landed-at oldest-buffer word-held with-tags first-word word-landed last-of-frame oldest-opens with-content frame-over with-latest oldest-place with-place-b rules.rearmed rules.discarded
 cases = (refl, refl, refl, refl, refl, refl, refl)

@@ -25,7 +25,7 @@ landed-at A p k = record { turns = word-landed (k .held) (k .turns); place-a = p
 landed-at B p k = record { turns = with-place-b (p + 1) (word-landed (k .held) (k .turns)); place-a = k .place-a; held = k .held - 1 }
 
 unfoldable pub keep : Kept → Event → Kept
-keep k held = record { turns = word-held (k .held) (k .turns); place-a = k .place-a; held = k .held + 1 }
+keep k (held v) = record { turns = word-held (k .held) (k .turns); place-a = k .place-a; held = k .held + 1 }
 keep k lost = record { turns = word-lost (k .turns); place-a = k .place-a; held = 0 }
 keep k landed = cond (ltb 0 (k .held)) (landed-at (oldest-buffer (k .turns)) (oldest-place (k .place-a) (k .turns)) k) k
 keep k ended = record { turns = frame-ended (k .held) (k .turns); place-a = k .place-a; held = k .held }

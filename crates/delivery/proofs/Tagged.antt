@@ -95,12 +95,12 @@ kept-place B k x a b = b
 
 -- A word is noted, and held.
 pub holds : (k : Kept) (l : Turn) (ns : List Noted) (n : Noted) (t : Turn) → n .turn ≡ word-turn true t → Tagged k l ns t
-    → Tagged (keep k held) l (ns ++ n ∷ []) (next (n .turn))
+    → Tagged (keep k (held (n .word))) l (ns ++ n ∷ []) (next (n .turn))
 unfolding keep word-turn
 holds k l ns n t e g = go (eqb (t .number) 0) refl
   where
     so : (v : View) → view (word-held (k .held) (k .turns)) ≡ v → v .in-b ≡ weigh in-b (tags (ns ++ n ∷ [])) → v .opening ≡ weigh opening (tags (ns ++ n ∷ []))
-        → v .place ≡ k .turns .place → v .turn ≡ n .turn .buffer → v .begun ≡ true → Tagged (keep k held) l (ns ++ n ∷ []) (next (n .turn))
+        → v .place ≡ k .turns .place → v .turn ≡ n .turn .buffer → v .begun ≡ true → Tagged (keep k (held (n .word))) l (ns ++ n ∷ []) (next (n .turn))
     so v is b o p u r =
         record {
           held = rw length-append (omega (arith, g .held));
@@ -108,11 +108,11 @@ holds k l ns n t e g = go (eqb (t .number) 0) refl
           opening = ap (λ (v : View). v .opening) is ∙ o;
           turn = ap (λ (v : View). v .turn) is ∙ u;
           begun = ap (λ (v : View). v .begun) is ∙ r ∙ sym (lt-ltb 0 (n .turn .number + 1) (omega arith));
-          place = kept-place (l .buffer) k (keep k held) refl (ap (λ (v : View). v .place) is ∙ p) ∙ g .place;
+          place = kept-place (l .buffer) k (keep k (held (n .word))) refl (ap (λ (v : View). v .place) is ∙ p) ∙ g .place;
           chain = chain-word true l t ns n e (g .chain);
         }
 
-    go : (b : Bool) → eqb (t .number) 0 ≡ b → Tagged (keep k held) l (ns ++ n ∷ []) (next (n .turn))
+    go : (b : Bool) → eqb (t .number) 0 ≡ b → Tagged (keep k (held (n .word))) l (ns ++ n ∷ []) (next (n .turn))
     go true z =
         let idle : k .turns .begun ≡ false = g .begun ∙ rw (eqb-true (t .number) 0 z) in
         let is : n .turn ≡ record { buffer = other (t .buffer); number = 0 } = e ∙ rw z in

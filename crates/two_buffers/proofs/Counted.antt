@@ -88,7 +88,7 @@ module _ (u : Buffer) (t : Turns) (opens : Bool) (a : ℕ) (is : next-buffer t �
       → (keeps (kept-by l p) (word-event (completed v)) ≡ kept-by (word-entry (completed v) l) p) × Alive (word-entry (completed v) l) p
   unfolding keeps word-entry
   held-done v l p grown alive =
-      let (same, on) = held-on u t opens a is fresh (ltb (c .completed) (l .completed)) (ltb (c .landed) (l .landed)) (l .held) p (alive .going) in
+      let (same, on) = held-on u t opens a is fresh v (ltb (c .completed) (l .completed)) (ltb (c .landed) (l .landed)) (l .held) p (alive .going) in
       let more = lt-ltb (c .completed) (l .completed + 1) (omega arith) in
       (rw (alive .none-lost, more) same, record { none-lost = alive .none-lost; going = rw more on })
 

@@ -78,10 +78,10 @@ landing-done u opens c l h p a t b first =
     (lands-in u opens c l h p a t b)
 
 -- A word is held, behind others of its frame or as its first; or it is lost.
-held-later : (u : Buffer) (opens c l : Bool) (h p a : ℕ) (t : Turns) → next-buffer t ≡ u → switched c t .begun ≡ true → (opens && not l ≡ true → 0 < h)
-    → keep (keeping u opens a t (doing c l false h p)) story.held ≡ keeping u opens a t (doing true l false (h + 1) p)
+held-later : (v : ℕ) (u : Buffer) (opens c l : Bool) (h p a : ℕ) (t : Turns) → next-buffer t ≡ u → switched c t .begun ≡ true → (opens && not l ≡ true → 0 < h)
+    → keep (keeping u opens a t (doing c l false h p)) (story.held v) ≡ keeping u opens a t (doing true l false (h + 1) p)
 unfolding keep turns-by
-held-later u opens c l h p a t is b pos =
+held-later v u opens c l h p a t is b pos =
     let same = begun-first c t b in
     ap (λ (s : Turns). record { turns = s; place-a = place-a u l p a; held = h + 1 })
     (word-turns u opens l h p (switched c t) b (ap (λ (s : Turns). s .turn) same ∙ first-turn t ∙ is) pos ∙ ap (λ (s : Turns). held-turns u opens l (h + 1) p s) same)
@@ -94,10 +94,10 @@ lost-after u opens c l h p a t b =
     ap (λ (s : Turns). record { turns = s; place-a = place-a u l p a; held = 0 })
     (lost-later u opens l h p (switched c t) b ∙ ap (λ (s : Turns). lost-turns u opens l p s) same)
 
-held-first : (u : Buffer) (p a : ℕ) (t : Turns) → next-buffer t ≡ u → t .begun ≡ false
-    → keep (keeping u true a t (doing false false false 0 p)) story.held ≡ keeping u true a t (doing true false false 1 p)
+held-first : (v : ℕ) (u : Buffer) (p a : ℕ) (t : Turns) → next-buffer t ≡ u → t .begun ≡ false
+    → keep (keeping u true a t (doing false false false 0 p)) (story.held v) ≡ keeping u true a t (doing true false false 1 p)
 unfolding keep turns-by next-buffer
-held-first u p a t is b =
+held-first v u p a t is b =
     let to : other (t .turn) ≡ u = sym (ap (λ (c : Bool). cond c (t .turn) (other (t .turn))) b) ∙ is in
     ap (λ (s : Turns). record { turns = s; place-a = place-a u false p a; held = 1 }) (first-turns u p t b to)
 
@@ -129,18 +129,18 @@ module _ (u : Buffer) (t : Turns) (opens : Bool) (a : ℕ) (is : next-buffer t �
         record { held-begun = λ e. b; landed-begun = λ e. b; waits = λ e f. absurd (false≢true (sym (and-zero opens) ∙ e)); first = λ e. absurd (true≢false e) },
       )
 
-  pub held-on : (c l : Bool) (h p : ℕ) → Going c l h p
-      → (keep (keeping u opens a t (doing c l false h p)) story.held ≡ keeping u opens a t (doing true l false (h + 1) p)) × Going true l (h + 1) p
-  held-on c l h p g =
+  pub held-on : (v : ℕ) (c l : Bool) (h p : ℕ) → Going c l h p
+      → (keep (keeping u opens a t (doing c l false h p)) (story.held v) ≡ keeping u opens a t (doing true l false (h + 1) p)) × Going true l (h + 1) p
+  held-on v c l h p g =
       (go (switched c t .begun) refl, record { held-begun = λ e. first-begun t; landed-begun = λ e. first-begun t; waits = λ e f. omega arith; first = g .first })
     where
-      go : (b : Bool) → switched c t .begun ≡ b → keep (keeping u opens a t (doing c l false h p)) story.held ≡ keeping u opens a t (doing true l false (h + 1) p)
-      go true b = held-later u opens c l h p a t is b (λ e. g .waits e b)
+      go : (b : Bool) → switched c t .begun ≡ b → keep (keeping u opens a t (doing c l false h p)) (story.held v) ≡ keeping u opens a t (doing true l false (h + 1) p)
+      go true b = held-later v u opens c l h p a t is b (λ e. g .waits e b)
       go false b =
           let (none, new) = not-begun c t b in
           let still = no-landing l (λ e. true≢false (sym (g .landed-begun e) ∙ b)) in
           let empty = none-held h (λ e. true≢false (sym (g .held-begun e) ∙ b)) in
-          rw (none, still, empty, fresh new) (held-first u p a t is new)
+          rw (none, still, empty, fresh new) (held-first v u p a t is new)
 
   pub lost-on : (c l : Bool) (h p : ℕ) → Going c l h p
       → keep (keeping u opens a t (doing c l false h p)) story.lost ≡ keeping u opens a t (doing true l true 0 p)

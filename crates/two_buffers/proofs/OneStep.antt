@@ -70,7 +70,7 @@ held-more : (k : Kept) (s : Capture) (w : ℕ) (l : Option ℕ) {p : Packed} (v 
 unfolding sample-events keep keeps
 held-more k s w l v e calm =
     rw (e, keeps-append k (landing-event l) (word-event (completed v) ++ frame-event s (capture-sample s w)))
-    (frame-held (keep (keeps k (landing-event l)) story.held) s (capture-sample s w) calm)
+    (frame-held (keep (keeps k (landing-event l)) (story.held v)) s (capture-sample s w) calm)
 
 -- One bit more.
 bit-fits : (h x : ℕ) → h < 32 → x < 2 ^ h → x + 2 ^ h < 2 ^ 32
