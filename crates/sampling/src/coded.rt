@@ -139,7 +139,7 @@ fn next_begin(samples: &[u32], first: usize) -> usize
 }
 
 // How far the samples from `first` on are data: not at all where a byte waits.
-fn data_end(s: Capture, samples: &[u32], first: usize) -> usize
+pub fn data_end(s: Capture, samples: &[u32], first: usize) -> usize
     requires { ⌜ first ≤ length (now samples) ⌝ }
     ensures { λ r. ⌜ r ≡ cond (eqb (waiting-count (s .waiting)) 0) (first + data-bytes.data-run (drop first (now (samples .entry)))) first ⌝ }
 {

@@ -23,6 +23,7 @@ mod jpeg;
 mod single;
 
 use crate::coded::coded_steps;
+pub use crate::coded::data_end;
 use crate::jpeg::jpeg_steps;
 pub use crate::jpeg::level_end;
 pub use crate::single::refusal_of;

@@ -23,7 +23,7 @@ use Rattle.laws.proofs.Errors.{no-error-by-pins}
 use Rattle.laws.proofs.FrameEdges.{sync-flags-flagged}
 use Rattle.board_rules.specs.TwoBuffers.{frame-event}
 
--- No frame is open, and none starts while VSYNC keeps blanking or not.
+-- No frame is open, and by the pins none starts while VSYNC keeps blanking or not.
 pub record Still (blank : Bool) (s : Capture) : Type 0 where
   pub closed : s .frame ≡ Closed
   pub none-starts : s .syncs .vsync && not blank ≡ false
@@ -107,7 +107,7 @@ no-end : (f g : Bool) → (f ≡ true → g ≡ true) → f && not g ≡ false
 no-end true g on = rw (on refl)
 no-end false g on = refl
 
-no-event : (s : Capture) (c : Captured) → c .error ≡ false → (is-open (s .frame) ≡ true → is-open (c .state .frame) ≡ true) → frame-event s c ≡ []
+pub no-event : (s : Capture) (c : Captured) → c .error ≡ false → (is-open (s .frame) ≡ true → is-open (c .state .frame) ≡ true) → frame-event s c ≡ []
 unfolding frame-event
 no-event s c calm on = rw (calm, no-end (is-open (s .frame)) (is-open (c .state .frame)) on)
 

@@ -1,5 +1,5 @@
 -- One sample: the place of the next word after it (`step-place`); with no word held place and frame buffer play no part (`idle-step`); and a lost word ends the words of a stretch
--- (`lost-still`). Assumes nothing.
+-- (`lost-still`, `lost-closed`). Assumes nothing.
 use mathlib.Core.Bool.{Bool, true, false, cond, _&&_, Bool·beq}
 use mathlib.Core.List.{List, [], _∷_}
 use mathlib.Core.Option.{Option, none, some}
@@ -15,6 +15,7 @@ use Rattle.output.specs.declared.Fate.{Fate}
 use Rattle.output.specs.declared.Fate.the-variants.{Held, Lost}
 use Rattle.output.specs.Output.{OutputState, contents, push, with-held, holding, with-counts, with-place, count-sample, count-word, count-discarded, count-landed, room, Granted, no-landing, lands, oldest-lands, grant, Offered, offer, discard}
 use Rattle.rules.specs.declared.Capture.{Capture}
+use Rattle.rules.specs.declared.Frame.the-variants.{Closed}
 use Rattle.rules.specs.declared.Device.{Device}
 use Rattle.rules.specs.State.{capture-of, output-of, raise, clear-capture, close-frame, with-registers, with-frame, with-partial}
 use Rattle.rules.specs.Capture.{Captured, flagged}
@@ -110,7 +111,7 @@ flagged-still : (blank : Bool) (c : Captured) → Still blank (c .state) → Sti
 unfolding flagged raise with-registers
 flagged-still blank c still = either (Still blank) (c .due) (record { closed = still .closed; none-starts = still .none-starts }) still
 
-complete-still : (blank : Bool) (o : Option ℕ) (c : Captured) (x : OutputState) → o ≡ none → Still blank (c .state)
+pub complete-still : (blank : Bool) (o : Option ℕ) (c : Captured) (x : OutputState) → o ≡ none → Still blank (c .state)
     → (complete o c x .packed ≡ nothing) × Still blank (complete o c x .device .core .capture)
 unfolding complete
 complete-still blank o c x e still = rw e (refl, flagged-still blank c still)
@@ -130,17 +131,24 @@ lose-still s e =
     let same = either (λ (t : Capture). t .syncs .vsync ≡ false) (snapshot (s .registers .cr)) e e in
     record { closed = refl; none-starts = and-unit _ ∙ same }
 
-complete-lost : (o : Option ℕ) (c : Captured) (x : OutputState) → ((v : ℕ) → o ≡ some v → c .state .syncs .vsync ≡ false) → complete o c x .packed ≡ lost
-    → Still false (complete o c x .device .core .capture)
+complete-lost : (P : Capture → Type 0) (o : Option ℕ) (c : Captured) (x : OutputState) → ((v : ℕ) → o ≡ some v → P (lose-frame (c .state))) → complete o c x .packed ≡ lost
+    → P (complete o c x .device .core .capture)
 unfolding complete after-word
-complete-lost none c x calm e = let z : _≡_ {A = ℕ} 0 1 = cc in absurd (omega arith)
-complete-lost (some v) c x calm e = go (offer v x .fate) e
+complete-lost P none c x calm e = let z : _≡_ {A = ℕ} 0 1 = cc in absurd (omega arith)
+complete-lost P (some v) c x calm e = go (offer v x .fate) e
   where
-    go : (f : Fate) → after-word f v c (offer v x .state) .packed ≡ lost → Still false (after-word f v c (offer v x .state) .device .core .capture)
+    go : (f : Fate) → after-word f v c (offer v x .state) .packed ≡ lost → P (after-word f v c (offer v x .state) .device .core .capture)
     go Held e = let z : _≡_ {A = ℕ} 0 1 = cc in absurd (omega arith)
-    go Lost e = lose-still (c .state) (calm v refl)
+    go Lost e = calm v refl
 
 pub lost-still : (d : Device) (b : List ℕ) (w : ℕ) → embedded (d .core .capture .registers .cr) ≡ false → Bool·beq (vsync-pin w) (vspol (d .core .capture .registers .cr)) ≡ false
     → step d b w .packed ≡ lost → Still false (step d b w .device .core .capture)
 unfolding step after-grant
-lost-still d b w plain level e = let s = d .core .capture in complete-lost (capture-sample s w .word) (capture-sample s w) _ (word-calms false s w plain level) e
+lost-still d b w plain level e =
+    let s = d .core .capture in
+    complete-lost (Still false) (capture-sample s w .word) (capture-sample s w) _ (λ v is. lose-still (capture-sample s w .state) (word-calms false s w plain level v is)) e
+
+pub lost-closed : (d : Device) (b : List ℕ) (w : ℕ) → step d b w .packed ≡ lost → step d b w .device .core .capture .frame ≡ Closed
+unfolding step after-grant lose-frame close-frame with-partial with-frame
+lost-closed d b w e =
+    let s = d .core .capture in complete-lost (λ (t : Capture). t .frame ≡ Closed) (capture-sample s w .word) (capture-sample s w) _ (λ v is. refl) e

@@ -5,7 +5,10 @@ pub mod Alone
 pub mod Calm
 pub mod Doing
 pub mod Idle
+pub mod Data
+pub mod Lasting
 pub mod Counted
+pub mod Running
 pub mod RunningOn
 pub mod Stretching
 pub mod Turning

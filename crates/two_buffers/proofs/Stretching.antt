@@ -1,21 +1,23 @@
 -- Stretches as the code finds and runs them: what the calls in `run_on` ask and that its answer is the rules' (`stretch-run`), and that the samples up to `stretch-end` are a stretch
 -- (`stretch-to`). Assumes nothing.
-use mathlib.Core.Bool.{Bool, true, false, not, _&&_, Bool·beq, false≢true}
+use mathlib.Core.Bool.{Bool, true, false, cond, Bool·beq, false≢true}
 use mathlib.Core.List.{List, [], _∷_}
 use mathlib.Core.Path.{_≡_, refl, sym, ap, _∙_}
 use Prim.Native.Nat.{ℕ, suc, _+_, _-_, _≤_, _<_}
 use native.Mathlib.Omega.{arith}
 use lib.Dec.{eqb, ltb}
 use lib.ListN.{length, getD, take, drop, length-drop}
-use borrow.Author.Tests.{eqb-true, not-true}
-use Rattle.bits.proofs.Booleans.{and-true, by-cond, either}
+use borrow.Author.Tests.{not-true}
+use Rattle.bits.proofs.Booleans.{by-cond, either}
 use Rattle.registers.specs.Control.{embedded, vspol}
 use Rattle.samples.specs.Samples.{vsync-pin}
+use Rattle.codes.specs.Bytes.{waiting-count}
 use Rattle.buffers.specs.declared.Buffer.{Buffer}
 use Rattle.buffers.specs.declared.Buffer.the-variants.{A, B}
 use Rattle.buffers.specs.declared.Turns.{Turns}
 use Rattle.buffers.specs.Turns.{next-place}
 use Rattle.output.specs.WellFormed.{Laid}
+use Rattle.rules.specs.declared.Capture.{Capture}
 use Rattle.rules.specs.declared.Core.{Core}
 use Rattle.rules.specs.declared.Device.{Device}
 use Rattle.rules.specs.State.{output-of, is-open}
@@ -27,12 +29,14 @@ use Rattle.board_rules.specs.TwoBuffers.{Pair, part, with-part, Two, two-steps}
 use Rattle.board_rules.proofs.WellFormed.{TurnsOk}
 use Rattle.laws.proofs.KeepsWrites.{placed-ok}
 use Rattle.sampling.specs.Levels.{level-run}
+use Rattle.sampling.specs.DataBytes.{data-run}
 use Rattle.sampling.specs.Notes.{Noted, noted-steps}
 use Rattle.sampling.specs.Answers.{noted}
 use Rattle.sampling.proofs.Noted.{same-run}
 use Rattle.sampling.proofs.Stretches.{run-within}
+use Rattle.sampling.proofs.DataBytes.{data-within, data-part}
 use Rattle.two_buffers.specs.Answers.{placed}
-use Rattle.two_buffers.specs.Stretches.{next-buffer, alone, first-opens, first-place, place-a, turns-after, All-blank, RunsOn, goes-on, stretch-end}
+use Rattle.two_buffers.specs.Stretches.{next-buffer, alone, first-opens, first-place, place-a, turns-after, All-blank, AtLevel, Lasts, RunsOn, goes-on, calm-end, stretch-end}
 use Rattle.two_buffers.proofs.OneStep.{placed-laid}
 use Rattle.two_buffers.proofs.RunningOn.{run-on, runs-on}
 
@@ -78,6 +82,7 @@ module _ (x : Two) (well : WellFormed (x .device)) (turns : TurnsOk (x .device .
         → t ≡ turns-after (x .turns) (x .device .core .output .held) (x .device .core .output .counts) (n .device .core .output)
         → a ≡ place-a u (ltb (x .device .core .output .counts .landed) (n .device .core .output .counts .landed)) (n .device .core .output .place) (x .device .core .output .place)
         → _≡_ {A = Two} (record { device = register-rules.placed a (n .device); turns = t; buffers = m }) (two-steps x ws)
+    unfolding turns-after
     stretch-run m is em et ea =
         rw (em, et, ea, eu) (ap (λ (r : Ran). run-on x (is .alone) r) ran ∙ sym (runs-on x (is .alone) turns ws is))
 
@@ -96,10 +101,44 @@ level-blanks level polarity (w ∷ ws) =
     (λ e. (ap (λ (b : Bool). Bool·beq b polarity) (same-bool (vsync-pin w) level e), level-blanks level polarity ws))
     (λ e. tt)
 
-idle-of : (blank in-frame : Bool) (held : ℕ) → goes-on blank in-frame held ≡ true → blank ≡ true → (in-frame ≡ false) × (held ≡ 0)
+idle-of : (blank in-frame : Bool) → goes-on blank in-frame ≡ true → blank ≡ true → in-frame ≡ false
 unfolding goes-on
-idle-of true in-frame held e is = let (closed, empty) = and-true (not in-frame) (eqb held 0) e in (not-true _ closed, eqb-true _ _ empty)
-idle-of false in-frame held e is = absurd (false≢true is)
+idle-of true in-frame e is = not-true _ e
+idle-of false in-frame e is = absurd (false≢true is)
+
+-- The samples up to where they no longer last.
+record Part (s : Capture) (samples : List ℕ) (i k : ℕ) : Type 0 where
+  inside : k ≤ length samples
+  lasts : Lasts (embedded (s .registers .cr)) s (take (k - i) (drop i samples))
+
+calm-part : (s : Capture) (samples : List ℕ) (i : ℕ) → i < length samples → i < calm-end s samples i → Part s samples i (calm-end s samples i)
+unfolding calm-end
+calm-part s samples i within = go (embedded (s .registers .cr)) refl
+  where
+    level : Bool
+    level = vsync-pin (getD samples i 0)
+
+    polarity : Bool
+    polarity = vspol (s .registers .cr)
+
+    data-end : ℕ
+    data-end = cond (eqb (waiting-count (s .waiting)) 0) (i + data-run (drop i samples)) i
+
+    level-end : ℕ
+    level-end = cond (goes-on (Bool·beq level polarity) (is-open (s .frame))) (i + level-run level (drop i samples)) i
+
+    by-level : i < level-end → (level-end ≤ length samples) × AtLevel s (take (level-end - i) (drop i samples))
+    by-level =
+        by-cond (λ (k : ℕ). i < k → (k ≤ length samples) × AtLevel s (take (k - i) (drop i samples))) (goes-on (Bool·beq level polarity) (is-open (s .frame))) _ _
+        (λ on less.
+        let so-many : i + level-run level (drop i samples) - i ≡ level-run level (drop i samples) = omega arith in
+        (omega (arith, rw length-drop at (run-within level (drop i samples))), rw so-many (record { blank = Bool·beq level polarity; levels = level-blanks level polarity (drop i samples); idle = idle-of (Bool·beq level polarity) (is-open (s .frame)) on })))
+        (λ off less. absurd (omega arith))
+
+    go : (coded : Bool) → embedded (s .registers .cr) ≡ coded → i < cond coded data-end level-end → Part s samples i (cond coded data-end level-end)
+    go true coded less =
+        record { inside = data-within samples i (s .waiting) data-end refl (omega arith); lasts = rw coded (data-part samples i (s .waiting) data-end refl less) }
+    go false plain less = let (inside, at-level) = by-level less in record { inside = inside; lasts = rw plain at-level }
 
 -- They are a stretch.
 pub record Stretch (c : Core) (t : Turns) (samples : List ℕ) (i k : ℕ) : Type 0 where
@@ -109,23 +148,11 @@ pub record Stretch (c : Core) (t : Turns) (samples : List ℕ) (i k : ℕ) : Typ
 stretch-on : (c : Core) (t : Turns) (samples : List ℕ) (i : ℕ) → i < length samples → i < stretch-end c t samples i → Stretch c t samples i (stretch-end c t samples i)
 unfolding stretch-end
 stretch-on c t samples i within =
-    let cr = c .capture .registers .cr in
-    let level = vsync-pin (getD samples i 0) in
-    let held = c .output .held in
-    let P : ℕ → Type 0 = λ k. i < k → Stretch c t samples i k in
-    by-cond P (embedded cr) _ _ (λ e less. absurd (omega arith))
-    (λ plain.
-    by-cond P (alone held t && goes-on (Bool·beq level (vspol cr)) (is-open (c .capture .frame)) held) _ _
-    (λ e less.
-    let (single, on) = and-true (alone held t) _ e in
-    let so-many : i + level-run level (drop i samples) - i ≡ level-run level (drop i samples) = omega arith in
-    record {
-      inside = omega (arith, rw length-drop at (run-within level (drop i samples)));
-      runs =
-          rw so-many
-          (record { by-pins = plain; alone = single; blank = Bool·beq level (vspol cr); levels = level-blanks level (vspol cr) (drop i samples); idle = idle-of (Bool·beq level (vspol cr)) (is-open (c .capture .frame)) held on });
-    })
-    (λ e less. absurd (omega arith)))
+    by-cond (λ (k : ℕ). i < k → Stretch c t samples i k) (alone (c .output .held) t) _ _
+    (λ single less.
+    let part = calm-part (c .capture) samples i within less in
+    record { inside = part .inside; runs = record { alone = single; lasts = part .lasts } })
+    (λ e less. absurd (omega arith))
 
 pub stretch-to : {c : Core} {t : Turns} {samples : List ℕ} {i k : ℕ} → k ≡ stretch-end c t samples i → i < length samples → i < k → Stretch c t samples i k
 stretch-to {c} {t} {samples} {i} e within less = rw e (stretch-on c t samples i within (rw e at less))

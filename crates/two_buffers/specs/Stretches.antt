@@ -7,6 +7,8 @@ use lib.Dec.{eqb, ltb, leb}
 use lib.ListN.{getD, drop}
 use Rattle.registers.specs.Control.{embedded, vspol}
 use Rattle.samples.specs.Samples.{vsync-pin}
+use Rattle.codes.specs.declared.Waiting.the-variants.{Zero}
+use Rattle.codes.specs.Bytes.{waiting-count}
 use Rattle.buffers.specs.declared.Buffer.{Buffer}
 use Rattle.buffers.specs.declared.Buffer.the-variants.{A, B}
 use Rattle.buffers.specs.declared.Content.the-variants.{Landing}
@@ -14,9 +16,11 @@ use Rattle.buffers.specs.declared.Turns.{Turns}
 use Rattle.buffers.specs.Turns.{other, with-tags, with-place-b, with-content, first-word, discarded, oldest-opens, next-place}
 use Rattle.output.specs.declared.Counts.{Counts}
 use Rattle.output.specs.declared.Output.{Output}
+use Rattle.rules.specs.declared.Capture.{Capture}
 use Rattle.rules.specs.declared.Core.{Core}
 use Rattle.rules.specs.State.{is-open}
 use Rattle.sampling.specs.Levels.{level-run}
+use Rattle.sampling.specs.DataBytes.{NoneBegins, data-run}
 
 -- The tags of so many held words that all go to one buffer.
 unfoldable pub tags-in : Buffer → ℕ → ℕ
@@ -83,24 +87,32 @@ unfoldable pub All-blank : Bool → Bool → List ℕ → Type 0
 All-blank blank polarity [] = Unit {0}
 All-blank blank polarity (w ∷ ws) = (Bool·beq (vsync-pin w) polarity ≡ blank) × All-blank blank polarity ws
 
--- Samples that are a stretch.
-pub record RunsOn (c : Core) (t : Turns) (ws : List ℕ) : Type 0 where
-  pub by-pins : embedded (c .capture .registers .cr) ≡ false
-  pub alone : alone (c .output .held) t ≡ true
+-- Samples at which no frame ends and ERR does not rise, and at most one frame completes words. With ESS 1: data, where no byte waits. By the pins: VSYNC keeps its level, and no frame is open where it blanks.
+pub record AtLevel (s : Capture) (ws : List ℕ) : Type 0 where
   pub blank : Bool
-  pub levels : All-blank blank (vspol (c .capture .registers .cr)) ws
-  pub idle : blank ≡ true → (is-open (c .capture .frame) ≡ false) × (c .output .held ≡ 0)
+  pub levels : All-blank blank (vspol (s .registers .cr)) ws
+  pub idle : blank ≡ true → is-open (s .frame) ≡ false
+
+abbrev pub Lasts : Bool → Capture → List ℕ → Type 0
+Lasts true s ws = (s .waiting ≡ Zero) × NoneBegins ws
+Lasts false s ws = AtLevel s ws
+
+-- Those that are a stretch.
+pub record RunsOn (c : Core) (t : Turns) (ws : List ℕ) : Type 0 where
+  pub alone : alone (c .output .held) t ≡ true
+  pub lasts : Lasts (embedded (c .capture .registers .cr)) (c .capture) ws
 
 -- How far they reach.
-unfoldable pub goes-on : Bool → Bool → ℕ → Bool
-goes-on blank in-frame held = not blank || (not in-frame && eqb held 0)
+unfoldable pub goes-on : Bool → Bool → Bool
+goes-on blank in-frame = not blank || not in-frame
 
-unfoldable pub stretch-end : Core → Turns → List ℕ → ℕ → ℕ
-stretch-end c t samples first =
-    let cr = c .capture .registers .cr in
+unfoldable pub calm-end : Capture → List ℕ → ℕ → ℕ
+calm-end s samples first =
+    let cr = s .registers .cr in
     let level = vsync-pin (getD samples first 0) in
     cond (embedded cr)
-    first
-    (cond (alone (c .output .held) t && goes-on (Bool·beq level (vspol cr)) (is-open (c .capture .frame)) (c .output .held))
-    (first + level-run level (drop first samples))
-    first)
+    (cond (eqb (waiting-count (s .waiting)) 0) (first + data-run (drop first samples)) first)
+    (cond (goes-on (Bool·beq level (vspol cr)) (is-open (s .frame))) (first + level-run level (drop first samples)) first)
+
+unfoldable pub stretch-end : Core → Turns → List ℕ → ℕ → ℕ
+stretch-end c t samples first = cond (alone (c .output .held) t) (calm-end (c .capture) samples first) first

@@ -1,5 +1,5 @@
-// Samples by stretches (docs/SPEED.md): while VSYNC keeps a level that does not blank, at most one frame completes words, and no frame ends; if all held words are of the buffer where its words
-// go, the samples are run over that buffer as with one, and the turns follow from the counts. So are those of vertical blanking with no frame open and no word held.
+// Samples by stretches (docs/SPEED.md), in which no frame ends, ERR does not rise, and at most one frame completes words: with ESS 1 data, where no byte waits; by the pins those at which VSYNC keeps a level,
+// that does not blank or at which no frame is open. If all held words are of the buffer where its words go, the samples are run over that buffer as with one, and the turns follow from the counts.
 ghost use mathlib.Core.Bool.{cond, not, _&&_};
 ghost use mathlib.Core.Path.{_≡_};
 ghost use Prim.Native.Nat.{_+_, _≤_, _<_, _^_};
@@ -31,8 +31,10 @@ use output::Counts;
 use output::Output;
 use output::SLOTS;
 use registers::control;
+use rules::Capture;
 use rules::Core;
 use samples::vsync_pin;
+use sampling::data_end;
 use sampling::level_end;
 use well_formed::is_open;
 
@@ -231,17 +233,31 @@ pub fn run_on(
     }
 }
 
-// Vertical blanking with no frame open and no word held, or no vertical blanking.
-fn goes_on(blank: bool, in_frame: bool, held: u32) -> bool
-    ensures { λ r. ⌜ r ≡ stretch-rules.goes-on blank «in_frame» held ⌝ }
+// Vertical blanking with no frame open, or no vertical blanking.
+fn goes_on(blank: bool, in_frame: bool) -> bool
+    ensures { λ r. ⌜ r ≡ stretch-rules.goes-on blank «in_frame» ⌝ }
 {
     if blank {
-        if in_frame {
-            return false;
-        }
-        return held == 0;
+        return !in_frame;
     }
     true
+}
+
+// How far such samples reach from `first` on: data up to the next byte that may begin a code, or those of one level of VSYNC; `first` where there are none.
+fn calm_end(s: Capture, samples: &[u32], first: usize) -> usize
+    requires { ⌜ first < length (now samples) ⌝ }
+    ensures { λ r. ⌜ r ≡ stretch-rules.calm-end s (now (samples .entry)) first ⌝ }
+{
+    let cr = s.registers.cr;
+    if control::embedded(cr) {
+        return data_end(s, samples, first);
+    }
+    let frame = s.frame;
+    let w = samples[first];
+    if goes_on(blanks(vsync_pin(w), control::vspol(cr)), is_open(frame)) {
+        return level_end(samples, first);
+    }
+    first
 }
 
 // How far the samples from `first` on are one stretch; `first` where they begin none.
@@ -249,21 +265,8 @@ pub fn stretch_end(core: Core, t: Turns, samples: &[u32], first: usize) -> usize
     requires { ⌜ (core .output .held ≤ 32) × (first < length (now samples)) ⌝ }
     ensures { λ r. ⌜ r ≡ stretch-rules.stretch-end core t (now (samples .entry)) first ⌝ }
 {
-    let s = core.capture;
-    let cr = s.registers.cr;
-    let frame = s.frame;
-    let w = samples[first];
-    if control::embedded(cr) {
-        return first;
-    }
     if alone(core.output.held, t) {
-        if goes_on(
-            blanks(vsync_pin(w), control::vspol(cr)),
-            is_open(frame),
-            core.output.held,
-        ) {
-            return level_end(samples, first);
-        }
+        return calm_end(core.capture, samples, first);
     }
     first
 }

@@ -5,15 +5,11 @@ use Rattle.two_buffers.proofs.stretches.goes_on.Tie as tie
 
 returns : tie.Need-returns
 unfolding goes-on
-returns c = rw (c .before .if1 .taken, c .if2 .taken)
+returns c = rw (c .if1 .taken)
 
 returns-2 : tie.Need-returns-2
 unfolding goes-on
-returns-2 c = rw (c .before .if1 .taken, c .if2 .left)
-
-returns-3 : tie.Need-returns-3
-unfolding goes-on
-returns-3 c = rw (c .if1 .left)
+returns-2 c = rw (c .if1 .left)
 
 pub goes-on-spec : {M : Type 1} → statement M
-goes-on-spec = tie.close (tie.spec returns returns-2 returns-3)
+goes-on-spec = tie.close (tie.spec returns returns-2)
