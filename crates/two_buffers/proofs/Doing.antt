@@ -22,7 +22,7 @@ doing completed landed lost held place = record { completed = completed; landed 
 abbrev pub switched : Bool → Turns → Turns
 switched completed t = cond completed (first-word t) t
 
-first-begun : (t : Turns) → first-word t .begun ≡ true
+pub first-begun : (t : Turns) → first-word t .begun ≡ true
 unfolding first-word with-turn
 first-begun t = go (t .begun) refl
   where

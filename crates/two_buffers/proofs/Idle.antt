@@ -1,4 +1,4 @@
--- One sample: the place of the next word after it (`step-place`); with no word held place and frame buffer play no part (`idle-step`); and a lost word ends the words of a stretch
+-- One sample: the place of the next word after it (`step-place`); without room no word lands (`full-landing`); with no word held place and frame buffer play no part (`idle-step`); and a lost word ends the words of a stretch
 -- (`lost-still`, `lost-closed`). Assumes nothing.
 use mathlib.Core.Bool.{Bool, true, false, cond, _&&_, Bool·beq}
 use mathlib.Core.List.{List, [], _∷_}
@@ -60,6 +60,16 @@ unfolding grant contents oldest-lands
 grant-idle granted on x b e =
     either (λ (g : Granted). g ≡ no-landing x b) (granted && on) (ap (λ (n : ℕ). oldest-lands (take n (x .slots)) x b) e) refl
 
+-- Without room none lands either.
+oldest-full : (vs : List ℕ) (x : OutputState) (b : List ℕ) → room (x .output .place) b ≡ false → oldest-lands vs x b ≡ no-landing x b
+unfolding oldest-lands
+oldest-full [] x b e = refl
+oldest-full (v ∷ vs) x b e = rw e
+
+grant-full : (granted on : Bool) (x : OutputState) (b : List ℕ) → room (x .output .place) b ≡ false → grant granted on x b ≡ no-landing x b
+unfolding grant
+grant-full granted on x b e = either (λ (g : Granted). g ≡ no-landing x b) (granted && on) (oldest-full (contents x) x b e) refl
+
 -- Rule 9 leaves the place, and does not read it.
 abbrev placed-output : ℕ → OutputState → OutputState
 placed-output q x = record { output = with-place q (x .output); slots = x .slots }
@@ -96,6 +106,10 @@ complete-placed (some v) q c x = word-placed v q c x
 pub idle-landing : (d : Device) (b : List ℕ) (w : ℕ) → d .core .output .held ≡ 0 → (step d b w .landing ≡ none) × (step d b w .buffer ≡ b)
 unfolding step counted count-sample with-counts no-landing
 idle-landing d b w e = rw (grant-idle (bus-grant w) (enable (d .core .capture .registers .cr)) (counted (output-of d)) b e) (refl, refl)
+
+pub full-landing : (d : Device) (b : List ℕ) (w : ℕ) → room (d .core .output .place) b ≡ false → (step d b w .landing ≡ none) × (step d b w .buffer ≡ b)
+unfolding step counted count-sample with-counts no-landing
+full-landing d b w e = rw (grant-full (bus-grant w) (enable (d .core .capture .registers .cr)) (counted (output-of d)) b e) (refl, refl)
 
 pub idle-step : (d : Device) (b b′ : List ℕ) (w q : ℕ) → d .core .output .held ≡ 0
     → step (placed q d) b w ≡ record { device = placed q (step d b′ w .device); buffer = b; landing = none; packed = step d b′ w .packed }

@@ -10,5 +10,6 @@ pub mod Lasting
 pub mod Counted
 pub mod Running
 pub mod RunningOn
+pub mod Behind
 pub mod Stretching
 pub mod Turning

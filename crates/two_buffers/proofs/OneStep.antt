@@ -83,7 +83,7 @@ pub placed-laid : (k : ℕ) (d : Device) → Laid (output-of d) → Laid (output
 unfolding contents with-place
 placed-laid k d laid = record { fits = laid .fits; within = laid .within; slots = laid .slots }
 
-module _ (x : Two) (w : ℕ) (well : WellFormed (x .device)) (turns : TurnsOk (x .device .core .output) (x .turns)) (laid : Laid (output-of (x .device))) where
+module _ (x : Two) (well : WellFormed (x .device)) (turns : TurnsOk (x .device .core .output) (x .turns)) (laid : Laid (output-of (x .device))) where
   within : Within (numbers (x .device .core .output)) (kept (x .device) (x .turns))
   within = record { turns = record { buffers = turns .buffers; opening = turns .opening; place = turns .place }; place = well .output .place }
 
@@ -99,9 +99,9 @@ module _ (x : Two) (w : ℕ) (well : WellFormed (x .device)) (turns : TurnsOk (x
   pub asks-place : x .device .core .output .counts .samples + 1 < 2 ^ 32 → oldest-place (x .device .core .output .place) (x .turns) + 1 < 2 ^ 32
   asks-place fits = omega (arith, oldest-low, well .output .equation, well .output .completed)
 
-  pub asks-tags : (v : ℕ) → inner x w .packed ≡ completed v → TagsFit (keeps (kept (x .device) (x .turns)) (landing-event (inner x w .landing)))
+  pub asks-tags : (w v : ℕ) → inner x w .packed ≡ completed v → TagsFit (keeps (kept (x .device) (x .turns)) (landing-event (inner x w .landing)))
   unfolding two-step with-place
-  asks-tags v e =
+  asks-tags w v e =
       let b = part (oldest-buffer (x .turns)) (x .buffers) in
       let k = kept (x .device) (x .turns) in
       let k₁ = keeps k (landing-event (inner x w .landing)) in

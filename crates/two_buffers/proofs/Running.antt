@@ -57,6 +57,12 @@ pub with-own : (u : Buffer) (p : Pair) → with-part u (part u p) p ≡ p
 with-own A p = refl
 with-own B p = refl
 
+-- Where a run begins nothing is done yet.
+pub as-before : (x : Two) {n : ℕ} {s : Turns} {m : Pair} → n ≡ x .device .core .output .place → s ≡ x .turns → m ≡ x .buffers
+    → _≡_ {A = Two} (record { device = placed n (x .device); turns = s; buffers = m }) x
+unfolding with-place
+as-before x e f g = rw (e, f, g)
+
 abbrev pub next : Ran → ℕ → Ran
 next r w = let s = step (r .device) (r .buffer) w in record { device = s .device; buffer = s .buffer }
 

@@ -7,6 +7,7 @@ use Prim.Native.Nat.{ℕ, suc}
 use native.Mathlib.Omega.{arith}
 use lib.Dec.{ltb}
 use Rattle.bits.proofs.Booleans.{and-unit}
+use Rattle.registers.specs.Control.{embedded}
 use Rattle.buffers.specs.declared.Buffer.{Buffer}
 use Rattle.buffers.specs.declared.Turns.{Turns}
 use Rattle.buffers.specs.Turns.{oldest-buffer, oldest-place}
@@ -17,16 +18,16 @@ use Rattle.rules.specs.Sample.{capture-sample}
 use Rattle.rules.specs.RegisterCalls.{placed}
 use Rattle.rules.specs.Run.{lost, step, Ran, steps}
 use Rattle.laws.specs.Ledger.{Ledger, sample-entry, numbers}
-use Rattle.board_rules.specs.TwoBuffers.{landing-event, word-event, Pair, part, Two, two-steps}
+use Rattle.board_rules.specs.TwoBuffers.{landing-event, word-event, part, Two, two-steps}
 use Rattle.board_rules.proofs.WellFormed.{TurnsOk}
-use Rattle.two_buffers.specs.Stretches.{next-buffer, alone, first-opens, first-place, place-a, turns-by, RunsOn}
+use Rattle.two_buffers.specs.Stretches.{next-buffer, alone, first-opens, first-place, place-a, turns-by, Lasts}
 use Rattle.two_buffers.proofs.Alone.{alone-fresh, single-of, first-waits, none-yet, place-before, turns-before}
 use Rattle.two_buffers.proofs.Tagging.{held-turns, oldest-is, lands-at}
 use Rattle.two_buffers.proofs.Doing.{doing, switched, first-place-same}
 use Rattle.two_buffers.proofs.Idle.{place-after, step-place, idle-landing}
 use Rattle.two_buffers.proofs.Counted.{done-by, Grown, Alive, entered, entered-grown, events-done}
 use Rattle.two_buffers.proofs.Lasting.{lasts-calm}
-use Rattle.two_buffers.proofs.Running.{next, with-own, numbers-after, run-as, follows}
+use Rattle.two_buffers.proofs.Running.{next, with-own, as-before, numbers-after, run-as, follows}
 
 module _ (x : Two) (single : alone (x .device .core .output .held) (x .turns) ≡ true) where
   abbrev u : Buffer
@@ -109,12 +110,7 @@ module _ (x : Two) (single : alone (x .device .core .output .held) (x .turns) �
             },
       )
 
--- Where a stretch begins nothing is done yet.
-as-before : (x : Two) {n : ℕ} {s : Turns} {m : Pair} → n ≡ x .device .core .output .place → s ≡ x .turns → m ≡ x .buffers
-    → _≡_ {A = Two} (record { device = placed n (x .device); turns = s; buffers = m }) x
-unfolding with-place
-as-before x e f g = rw (e, f, g)
-
+-- Where the stretch begins nothing is done yet.
 module _ (x : Two) (single : alone (x .device .core .output .held) (x .turns) ≡ true) (turns : TurnsOk (x .device .core .output) (x .turns)) where
   abbrev t : Turns
   t = x .turns
@@ -156,8 +152,8 @@ module _ (x : Two) (single : alone (x .device .core .output .held) (x .turns) �
       }
 
   -- The law.
-  pub runs-on : (ws : List ℕ) → RunsOn (x .device .core) t ws → two-steps x ws ≡ run-on x single (steps (placed first-at (x .device)) (part (next-buffer t) (x .buffers)) ws)
-  runs-on ws is =
+  pub runs-on : (ws : List ℕ) → Lasts (embedded (x .device .core .capture .registers .cr)) (x .device .core .capture) ws → two-steps x ws ≡ run-on x single (steps (placed first-at (x .device)) (part (next-buffer t) (x .buffers)) ws)
+  runs-on ws lasts =
       ap (λ (y : Two). two-steps y ws) (sym begins)
       ∙ follows x (u x single) (turns-at x single) (place-at x single) (same-turns x single) (same-place x single) (On x single) (oldest x single) (events x single) begin ws begins-on
-      (lasts-calm (placed first-at (x .device)) (part (next-buffer t) (x .buffers)) ws (is .lasts))
+      (lasts-calm (placed first-at (x .device)) (part (next-buffer t) (x .buffers)) ws lasts)

@@ -1,4 +1,4 @@
--- Stretches as the code finds and runs them: what the calls in `run_on` ask and that its answer is the rules' (`stretch-run`), and that the samples up to `stretch-end` are a stretch
+-- Stretches as the code finds and runs them: what the calls in `run_on` and `run_behind` ask and that their answers are the rules' (`stretch-run`, `behind-run`), and that the samples up to `stretch-end` are a stretch
 -- (`stretch-to`). Assumes nothing.
 use mathlib.Core.Bool.{Bool, true, false, cond, Bool·beq, false≢true}
 use mathlib.Core.List.{List, [], _∷_}
@@ -15,7 +15,8 @@ use Rattle.codes.specs.Bytes.{waiting-count}
 use Rattle.buffers.specs.declared.Buffer.{Buffer}
 use Rattle.buffers.specs.declared.Buffer.the-variants.{A, B}
 use Rattle.buffers.specs.declared.Turns.{Turns}
-use Rattle.buffers.specs.Turns.{next-place}
+use Rattle.buffers.specs.Turns.{oldest-buffer, next-place, oldest-place}
+use Rattle.output.specs.declared.Output.{Output}
 use Rattle.output.specs.WellFormed.{Laid}
 use Rattle.rules.specs.declared.Capture.{Capture}
 use Rattle.rules.specs.declared.Core.{Core}
@@ -36,9 +37,10 @@ use Rattle.sampling.proofs.Noted.{same-run}
 use Rattle.sampling.proofs.Stretches.{run-within}
 use Rattle.sampling.proofs.DataBytes.{data-within, data-part}
 use Rattle.two_buffers.specs.Answers.{placed}
-use Rattle.two_buffers.specs.Stretches.{next-buffer, alone, first-opens, first-place, place-a, turns-after, All-blank, AtLevel, Lasts, RunsOn, goes-on, calm-end, stretch-end}
+use Rattle.two_buffers.specs.Stretches.{next-buffer, alone, first-opens, first-place, place-a, turns-after, no-room, turns-behind, runs, All-blank, AtLevel, Lasts, goes-on, lasting-end, stretch-end}
 use Rattle.two_buffers.proofs.OneStep.{placed-laid}
 use Rattle.two_buffers.proofs.RunningOn.{run-on, runs-on}
+use Rattle.two_buffers.proofs.Behind.{run-behind, runs-behind}
 
 -- The FIFO stays laid out.
 steps-laid : (d : Device) (b ws : List ℕ) → Laid (output-of d) → Laid (output-of (steps d b ws .device))
@@ -55,7 +57,19 @@ first-low held a n t la lb = either (λ (k : ℕ). k ≤ n) (first-opens held t)
     go A = la
     go B = lb
 
--- What the run asks, and what it leaves.
+-- What the run over a buffer, from a place on, leaves.
+module _ (x : Two) (laid : Laid (output-of (x .device))) (ws : List ℕ) {u u₀ : Buffer} {place p₀ : ℕ} {first : Core} (l v : List ℕ) (n : Noted) (eu : u ≡ u₀) (ep : place ≡ p₀)
+    (ef : first ≡ placed place (x .device .core)) (en : n ≡ noted-steps (noted first (x .device .slots) (part u (x .buffers)) l v) ws) where
+  ran : _≡_ {A = Ran} (record { device = n .device; buffer = n .buffer }) (steps (register-rules.placed p₀ (x .device)) (part u₀ (x .buffers)) ws)
+  unfolding placed
+  ran = ap (λ (m : Noted). record { device = m .device; buffer = m .buffer }) (rw (ef, ep, eu) at en) ∙ same-run _ ws
+
+  pub run-held : n .device .core .output .held ≤ 32
+  run-held =
+      let after = steps-laid (register-rules.placed p₀ (x .device)) (part u₀ (x .buffers)) ws (placed-laid _ (x .device) laid) in
+      rw (ap (λ (r : Ran). r .device) ran) (omega (arith, after .fits, after .within))
+
+-- What the two runs ask, and what they leave.
 module _ (x : Two) (well : WellFormed (x .device)) (turns : TurnsOk (x .device .core .output) (x .turns)) (laid : Laid (output-of (x .device))) where
   abbrev from : Device
   from = register-rules.placed (first-place (x .device .core .output .held) (x .device .core .output .place) (x .turns)) (x .device)
@@ -66,25 +80,29 @@ module _ (x : Two) (well : WellFormed (x .device)) (turns : TurnsOk (x .device .
   pub run-laid : Laid (output-of from)
   run-laid = placed-laid _ (x .device) laid
 
-  module _ (ws : List ℕ) {u : Buffer} {place : ℕ} {first : Core} (l v : List ℕ) (n : Noted) (eu : u ≡ next-buffer (x .turns))
-      (ep : place ≡ first-place (x .device .core .output .held) (x .device .core .output .place) (x .turns)) (ef : first ≡ placed place (x .device .core))
-      (en : n ≡ noted-steps (noted first (x .device .slots) (part u (x .buffers)) l v) ws) where
-    ran : _≡_ {A = Ran} (record { device = n .device; buffer = n .buffer }) (steps from (part (next-buffer (x .turns)) (x .buffers)) ws)
-    unfolding placed
-    ran = ap (λ (m : Noted). record { device = m .device; buffer = m .buffer }) (rw (ef, ep, eu) at en) ∙ same-run _ ws
-
-    pub run-held : n .device .core .output .held ≤ 32
-    run-held =
-        let after = steps-laid from (part (next-buffer (x .turns)) (x .buffers)) ws run-laid in
-        rw (ap (λ (r : Ran). r .device) ran) (omega (arith, after .fits, after .within))
-
-    pub stretch-run : {t : Turns} {a : ℕ} (m : Pair) → (is : RunsOn (x .device .core) (x .turns) ws) → m ≡ with-part u (n .buffer) (x .buffers)
+  module _ (ws : List ℕ) (lasts : Lasts (embedded (x .device .core .capture .registers .cr)) (x .device .core .capture) ws) {u : Buffer} {place : ℕ} {first : Core} (l v : List ℕ) (n : Noted) where
+    pub stretch-run : {t : Turns} {a : ℕ} (m : Pair) → alone (x .device .core .output .held) (x .turns) ≡ true → (eu : u ≡ next-buffer (x .turns))
+        → (ep : place ≡ first-place (x .device .core .output .held) (x .device .core .output .place) (x .turns)) → (ef : first ≡ placed place (x .device .core))
+        → (en : n ≡ noted-steps (noted first (x .device .slots) (part u (x .buffers)) l v) ws) → m ≡ with-part u (n .buffer) (x .buffers)
         → t ≡ turns-after (x .turns) (x .device .core .output .held) (x .device .core .output .counts) (n .device .core .output)
         → a ≡ place-a u (ltb (x .device .core .output .counts .landed) (n .device .core .output .counts .landed)) (n .device .core .output .place) (x .device .core .output .place)
         → _≡_ {A = Two} (record { device = register-rules.placed a (n .device); turns = t; buffers = m }) (two-steps x ws)
     unfolding turns-after
-    stretch-run m is em et ea =
-        rw (em, et, ea, eu) (ap (λ (r : Ran). run-on x (is .alone) r) ran ∙ sym (runs-on x (is .alone) turns ws is))
+    stretch-run m single eu ep ef en em et ea =
+        rw (em, et, ea, eu) (ap (λ (r : Ran). run-on x single r) (ran x laid ws l v n eu ep ef en) ∙ sym (runs-on x single turns ws lasts))
+
+    pub behind-run : {t : Turns} (m : Pair) → no-room (x .device .core .output) (x .turns) (length (x .buffers .a)) (length (x .buffers .b)) ≡ true → (eu : u ≡ oldest-buffer (x .turns))
+        → (ep : place ≡ oldest-place (x .device .core .output .place) (x .turns)) → (ef : first ≡ placed place (x .device .core))
+        → (en : n ≡ noted-steps (noted first (x .device .slots) (part u (x .buffers)) l v) ws) → m ≡ with-part u (n .buffer) (x .buffers)
+        → t ≡ turns-behind (x .device .core .output .held) (ltb (x .device .core .output .counts .discarded) (n .device .core .output .counts .discarded)) (n .device .core .output .held) (x .turns)
+        → _≡_ {A = Two} (record { device = register-rules.placed (x .device .core .output .place) (n .device); turns = t; buffers = m }) (two-steps x ws)
+    behind-run m stuck eu ep ef en em et =
+        rw (em, et, eu) (ap (λ (r : Ran). run-behind x stuck r) (ran x laid ws l v n eu ep ef en) ∙ sym (runs-behind x stuck ws lasts))
+
+-- The one way or the other.
+pub behind-else : (o : Output) (t : Turns) (a b : ℕ) → runs o t a b ≡ true → alone (o .held) t ≡ false → no-room o t a b ≡ true
+unfolding runs
+behind-else o t a b e off = rw off at e
 
 -- Samples up to where VSYNC changes its level.
 same-bool : (a b : Bool) → Bool·beq a b ≡ true → a ≡ b
@@ -111,9 +129,9 @@ record Part (s : Capture) (samples : List ℕ) (i k : ℕ) : Type 0 where
   inside : k ≤ length samples
   lasts : Lasts (embedded (s .registers .cr)) s (take (k - i) (drop i samples))
 
-calm-part : (s : Capture) (samples : List ℕ) (i : ℕ) → i < length samples → i < calm-end s samples i → Part s samples i (calm-end s samples i)
-unfolding calm-end
-calm-part s samples i within = go (embedded (s .registers .cr)) refl
+lasting-part : (s : Capture) (samples : List ℕ) (i : ℕ) → i < length samples → i < lasting-end s samples i → Part s samples i (lasting-end s samples i)
+unfolding lasting-end
+lasting-part s samples i within = go (embedded (s .registers .cr)) refl
   where
     level : Bool
     level = vsync-pin (getD samples i 0)
@@ -141,18 +159,19 @@ calm-part s samples i within = go (embedded (s .registers .cr)) refl
     go false plain less = let (inside, at-level) = by-level less in record { inside = inside; lasts = rw plain at-level }
 
 -- They are a stretch.
-pub record Stretch (c : Core) (t : Turns) (samples : List ℕ) (i k : ℕ) : Type 0 where
+pub record Stretch (c : Core) (t : Turns) (a b : ℕ) (samples : List ℕ) (i k : ℕ) : Type 0 where
   pub inside : k ≤ length samples
-  pub runs : RunsOn c t (take (k - i) (drop i samples))
+  pub runs : runs (c .output) t a b ≡ true
+  pub lasts : Lasts (embedded (c .capture .registers .cr)) (c .capture) (take (k - i) (drop i samples))
 
-stretch-on : (c : Core) (t : Turns) (samples : List ℕ) (i : ℕ) → i < length samples → i < stretch-end c t samples i → Stretch c t samples i (stretch-end c t samples i)
+stretch-on : (c : Core) (t : Turns) (a b : ℕ) (samples : List ℕ) (i : ℕ) → i < length samples → i < stretch-end c t a b samples i → Stretch c t a b samples i (stretch-end c t a b samples i)
 unfolding stretch-end
-stretch-on c t samples i within =
-    by-cond (λ (k : ℕ). i < k → Stretch c t samples i k) (alone (c .output .held) t) _ _
-    (λ single less.
-    let part = calm-part (c .capture) samples i within less in
-    record { inside = part .inside; runs = record { alone = single; lasts = part .lasts } })
+stretch-on c t a b samples i within =
+    by-cond (λ (k : ℕ). i < k → Stretch c t a b samples i k) (runs (c .output) t a b) _ _
+    (λ is less.
+    let part = lasting-part (c .capture) samples i within less in
+    record { inside = part .inside; runs = is; lasts = part .lasts })
     (λ e less. absurd (omega arith))
 
-pub stretch-to : {c : Core} {t : Turns} {samples : List ℕ} {i k : ℕ} → k ≡ stretch-end c t samples i → i < length samples → i < k → Stretch c t samples i k
-stretch-to {c} {t} {samples} {i} e within less = rw e (stretch-on c t samples i within (rw e at less))
+pub stretch-to : {c : Core} {t : Turns} {a b : ℕ} {samples : List ℕ} {i k : ℕ} → k ≡ stretch-end c t a b samples i → i < length samples → i < k → Stretch c t a b samples i k
+stretch-to {c} {t} {a} {b} {samples} {i} e within less = rw e (stretch-on c t a b samples i within (rw e at less))

@@ -142,7 +142,7 @@ unfolding opening-in
 more-opening true h pos = rw (lt-ltb 0 h (pos refl), lt-ltb 0 (h + 1) (omega arith))
 more-opening false h pos = refl
 
-again-first : (t : Turns) → t .begun ≡ true → first-word t ≡ t
+pub again-first : (t : Turns) → t .begun ≡ true → first-word t ≡ t
 unfolding first-word
 again-first t e = rw e
 
@@ -158,7 +158,7 @@ word-parts h p s B true false = refl
 word-parts h p s B false true = refl
 word-parts h p s B false false = refl
 
-held-more : (h : ℕ) (t : Turns) {u : Buffer} {x y : ℕ} → t .begun ≡ true → t .turn ≡ u → cond (is-b u) (t .«in_b» + 2 ^ h) (t .«in_b») ≡ x → t .opening ≡ y
+pub held-more : (h : ℕ) (t : Turns) {u : Buffer} {x y : ℕ} → t .begun ≡ true → t .turn ≡ u → cond (is-b u) (t .«in_b» + 2 ^ h) (t .«in_b») ≡ x → t .opening ≡ y
     → word-held h t ≡ with-tags x y t
 unfolding word-held
 held-more h t b turn tags opening = rw (again-first t b, b, turn, tags, opening)

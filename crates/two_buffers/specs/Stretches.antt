@@ -1,8 +1,8 @@
--- Stretches of samples with two frame buffers that run as with one: the turns before and after them. No contract of a call that users make cites them.
+-- Stretches of samples with two frame buffers that run over one of them: the turns before and after them. No contract of a call that users make cites them.
 use mathlib.Core.Bool.{Bool, true, false, cond, not, _&&_, _||_, Bool·beq}
 use mathlib.Core.List.{List, [], _∷_}
 use mathlib.Core.Path.{_≡_}
-use Prim.Native.Nat.{ℕ, _+_, _-_, _^_}
+use Prim.Native.Nat.{ℕ, _+_, _-_, _*_, _^_}
 use lib.Dec.{eqb, ltb, leb}
 use lib.ListN.{getD, drop}
 use Rattle.registers.specs.Control.{embedded, vspol}
@@ -13,7 +13,7 @@ use Rattle.buffers.specs.declared.Buffer.{Buffer}
 use Rattle.buffers.specs.declared.Buffer.the-variants.{A, B}
 use Rattle.buffers.specs.declared.Content.the-variants.{Landing}
 use Rattle.buffers.specs.declared.Turns.{Turns}
-use Rattle.buffers.specs.Turns.{other, with-tags, with-place-b, with-content, first-word, discarded, oldest-opens, next-place}
+use Rattle.buffers.specs.Turns.{other, with-tags, with-place-b, with-content, first-word, discarded, word-lost, oldest-buffer, oldest-opens, next-place, oldest-place}
 use Rattle.output.specs.declared.Counts.{Counts}
 use Rattle.output.specs.declared.Output.{Output}
 use Rattle.rules.specs.declared.Capture.{Capture}
@@ -82,12 +82,38 @@ turns-by u opens t m =
 unfoldable pub turns-after : Turns → ℕ → Counts → Output → Turns
 turns-after t held before after = turns-by (next-buffer t) (first-opens held t) t (done before after)
 
+-- The oldest held word has no room, the frame buffers being so long.
+abbrev pub long : Buffer → ℕ → ℕ → ℕ
+long A a b = a
+long B a b = b
+
+unfoldable pub no-room : Output → Turns → ℕ → ℕ → Bool
+no-room o t a b = not (eqb (o .held) 0) && ltb (long (oldest-buffer t) a b) (4 * oldest-place (o .place) t + 4)
+
+-- While it has none no word lands. The tag of a word that comes behind so many others, where it opens a frame; the turns with words held behind those that were, so many before and so many in all; and
+-- those after a stretch, in which a word may be lost.
+unfoldable pub opening-behind : Bool → ℕ → ℕ
+opening-behind begun before = cond begun 0 (2 ^ before)
+
+unfoldable pub words-behind : ℕ → ℕ → Turns → Turns
+words-behind before held t =
+    let s = first-word t in
+    with-tags (t .«in_b» + (tags-in (s .turn) held - tags-in (s .turn) before)) (t .opening + opening-behind (t .begun) before) s
+
+unfoldable pub turns-behind : ℕ → Bool → ℕ → Turns → Turns
+turns-behind before lost held t = cond lost (word-lost t) (cond (ltb before held) (words-behind before held t) t)
+
+-- Held words that let a stretch run: all of one buffer, or the oldest without room.
+unfoldable pub runs : Output → Turns → ℕ → ℕ → Bool
+runs o t a b = alone (o .held) t || no-room o t a b
+
 -- VSYNC's level at some samples: it blanks at all, or at none.
 unfoldable pub All-blank : Bool → Bool → List ℕ → Type 0
 All-blank blank polarity [] = Unit {0}
 All-blank blank polarity (w ∷ ws) = (Bool·beq (vsync-pin w) polarity ≡ blank) × All-blank blank polarity ws
 
--- Samples at which no frame ends and ERR does not rise, and at most one frame completes words. With ESS 1: data, where no byte waits. By the pins: VSYNC keeps its level, and no frame is open where it blanks.
+-- Samples at which no frame ends, ERR does not rise, and at most one frame completes words. By the pins: VSYNC keeps its level, and no frame is open where it blanks. With ESS 1: data, where no
+-- byte waits.
 pub record AtLevel (s : Capture) (ws : List ℕ) : Type 0 where
   pub blank : Bool
   pub levels : All-blank blank (vspol (s .registers .cr)) ws
@@ -97,22 +123,18 @@ abbrev pub Lasts : Bool → Capture → List ℕ → Type 0
 Lasts true s ws = (s .waiting ≡ Zero) × NoneBegins ws
 Lasts false s ws = AtLevel s ws
 
--- Those that are a stretch.
-pub record RunsOn (c : Core) (t : Turns) (ws : List ℕ) : Type 0 where
-  pub alone : alone (c .output .held) t ≡ true
-  pub lasts : Lasts (embedded (c .capture .registers .cr)) (c .capture) ws
-
 -- How far they reach.
 unfoldable pub goes-on : Bool → Bool → Bool
 goes-on blank in-frame = not blank || not in-frame
 
-unfoldable pub calm-end : Capture → List ℕ → ℕ → ℕ
-calm-end s samples first =
+unfoldable pub lasting-end : Capture → List ℕ → ℕ → ℕ
+lasting-end s samples first =
     let cr = s .registers .cr in
     let level = vsync-pin (getD samples first 0) in
     cond (embedded cr)
     (cond (eqb (waiting-count (s .waiting)) 0) (first + data-run (drop first samples)) first)
     (cond (goes-on (Bool·beq level (vspol cr)) (is-open (s .frame))) (first + level-run level (drop first samples)) first)
 
-unfoldable pub stretch-end : Core → Turns → List ℕ → ℕ → ℕ
-stretch-end c t samples first = cond (alone (c .output .held) t) (calm-end (c .capture) samples first) first
+-- How far a stretch reaches.
+unfoldable pub stretch-end : Core → Turns → ℕ → ℕ → List ℕ → ℕ → ℕ
+stretch-end c t a b samples first = cond (runs (c .output) t a b) (lasting-end (c .capture) samples first) first

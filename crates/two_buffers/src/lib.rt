@@ -22,7 +22,7 @@ ghost use Rattle.two_buffers.specs.Answers as two-answers;
 
 mod stretches;
 
-use crate::stretches::run_on;
+use crate::stretches::run_stretch;
 use crate::stretches::stretch_end;
 use buffers::Buffer;
 use buffers::Turns;
@@ -302,9 +302,9 @@ pub fn two_steps(
     let mut e = d;
     let mut i = 0;
     while i < samples.len() {
-        let k = stretch_end(e.core, e.turns, samples, i);
+        let k = stretch_end(e.core, e.turns, a.len(), b.len(), samples, i);
         if i < k {
-            e = run_on(e, slots, a, b, &samples[i..k]);
+            e = run_stretch(e, slots, a, b, &samples[i..k]);
             i = k;
         } else {
             let w = samples[i];

@@ -1,9 +1,11 @@
-// Samples by stretches (docs/SPEED.md), in which no frame ends, ERR does not rise, and at most one frame completes words: with ESS 1 data, where no byte waits; by the pins those at which VSYNC keeps a level,
-// that does not blank or at which no frame is open. If all held words are of the buffer where its words go, the samples are run over that buffer as with one, and the turns follow from the counts.
-ghost use mathlib.Core.Bool.{cond, not, _&&_};
+// Samples by stretches (docs/SPEED.md), in which no frame ends, ERR does not rise, and at most one frame completes words: with ESS 1 data where no byte waits, by the pins those at which VSYNC keeps
+// its level, if that does not blank or no frame is open. If all held words are of the buffer where its words go, such samples are run over that buffer as with one; if the oldest held word has no
+// room, over its buffer, and none lands. The turns follow from the counts.
+ghost use mathlib.Core.Bool.{true, cond, not, _&&_};
 ghost use mathlib.Core.Path.{_≡_};
 ghost use Prim.Native.Nat.{_+_, _≤_, _<_, _^_};
 ghost use lib.ListN.{length};
+ghost use Rattle.registers.specs.Control.{embedded};
 ghost use Rattle.buffers.specs.declared.Content.the-variants.{Landing};
 ghost use Rattle.buffers.specs.Turns as turn-rules;
 ghost use Rattle.output.specs.Answers as output-answers;
@@ -22,10 +24,13 @@ use buffers::Content;
 use buffers::Turns;
 use buffers::discarded;
 use buffers::first_word;
+use buffers::oldest_buffer;
 use buffers::oldest_opens;
+use buffers::oldest_place;
 use buffers::other;
 use buffers::with_content;
 use buffers::with_tags;
+use buffers::word_lost;
 use capture::syncs::blanks;
 use output::Counts;
 use output::Output;
@@ -201,8 +206,8 @@ fn turns_after(t: Turns, held: u32, before: Counts, after: Output) -> Turns
     place_b(u, landed, after.place, m)
 }
 
-// A stretch over one buffer.
-pub fn run_on(
+// A stretch over that buffer.
+fn run_on(
     d: Turned,
     slots: &mut [u32; SLOTS],
     a: &mut [u8],
@@ -213,7 +218,8 @@ pub fn run_on(
     requires { ⌜ TurnsOk (d .core .output) (d .turns) ⌝ }
     requires { ⌜ Laid (output-answers.left (d .core .output) (now slots)) ⌝ }
     requires { ⌜ d .core .output .counts .samples + length (now samples) < 2 ^ 32 ⌝ }
-    requires { ⌜ stretch-rules.RunsOn (d .core) (d .turns) (now samples) ⌝ }
+    requires { ⌜ stretch-rules.alone (d .core .output .held) (d .turns) ≡ true ⌝ }
+    requires { ⌜ stretch-rules.Lasts (embedded (d .core .capture .registers .cr)) (d .core .capture) (now samples) ⌝ }
     ensures { λ r. ⌜ two-answers.two r (now (slots .exit)) (now (a .exit)) (now (b .exit)) ≡ buffer-rules.two-steps (two-answers.two d (now (slots .entry)) (now (a .entry)) (now (b .entry))) (now (samples .entry)) ⌝ }
 {
     let t = d.turns;
@@ -233,6 +239,114 @@ pub fn run_on(
     }
 }
 
+// The oldest held word has no room, the frame buffers being so long.
+fn no_room(o: Output, t: Turns, a: usize, b: usize) -> bool
+    ensures { λ r. ⌜ r ≡ stretch-rules.no-room o t a b ⌝ }
+{
+    if o.held == 0 {
+        return false;
+    }
+    let u = oldest_buffer(t);
+    let end = 4 * (oldest_place(o.place, t) as usize) + 4;
+    match u {
+        Buffer::A => a < end,
+        Buffer::B => b < end,
+    }
+}
+
+// The tag of a word that comes behind so many others, where it opens a frame; and the turns with words held behind those that were, so many before and so many in all.
+fn opening_behind(begun: bool, before: u32) -> u32
+    requires { ⌜ before < 32 ⌝ }
+    ensures { λ r. ⌜ r ≡ stretch-rules.opening-behind begun before ⌝ }
+{
+    if begun {
+        return 0;
+    }
+    1 << before
+}
+
+fn words_behind(before: u32, held: u32, t: Turns) -> Turns
+    requires { ⌜ (before < held) × (held ≤ 32) × (t .«in_b» < 2 ^ before) × (t .opening < 2 ^ before) ⌝ }
+    ensures { λ r. ⌜ r ≡ stretch-rules.words-behind before held t ⌝ }
+{
+    let s = first_word(t);
+    let turn = s.turn;
+    let more = tags_in(turn, held) - tags_in(turn, before);
+    with_tags(
+        t.in_b + more,
+        t.opening + opening_behind(t.begun, before),
+        s,
+    )
+}
+
+// The turns after such a stretch.
+fn turns_behind(before: u32, lost: bool, held: u32, t: Turns) -> Turns
+    requires { ⌜ (held ≤ 32) × (t .«in_b» < 2 ^ before) × (t .opening < 2 ^ before) ⌝ }
+    ensures { λ r. ⌜ r ≡ stretch-rules.turns-behind before lost held t ⌝ }
+{
+    if lost {
+        return word_lost(t);
+    }
+    if before < held {
+        return words_behind(before, held, t);
+    }
+    t
+}
+
+// A stretch while the oldest held word has no room: words that come are held behind the others, or lost.
+fn run_behind(
+    d: Turned,
+    slots: &mut [u32; SLOTS],
+    a: &mut [u8],
+    b: &mut [u8],
+    samples: &[u32],
+) -> Turned
+    requires { ⌜ WellFormed (word-answers.device (d .core) (now slots)) ⌝ }
+    requires { ⌜ TurnsOk (d .core .output) (d .turns) ⌝ }
+    requires { ⌜ Laid (output-answers.left (d .core .output) (now slots)) ⌝ }
+    requires { ⌜ d .core .output .counts .samples + length (now samples) < 2 ^ 32 ⌝ }
+    requires { ⌜ stretch-rules.no-room (d .core .output) (d .turns) (length (now a)) (length (now b)) ≡ true ⌝ }
+    requires { ⌜ stretch-rules.Lasts (embedded (d .core .capture .registers .cr)) (d .core .capture) (now samples) ⌝ }
+    ensures { λ r. ⌜ two-answers.two r (now (slots .exit)) (now (a .exit)) (now (b .exit)) ≡ buffer-rules.two-steps (two-answers.two d (now (slots .entry)) (now (a .entry)) (now (b .entry))) (now (samples .entry)) ⌝ }
+{
+    let t = d.turns;
+    let o = d.core.output;
+    let u = oldest_buffer(t);
+    let core = placed(oldest_place(o.place, t), d.core);
+    let mut landings = [0; 2];
+    let mut words = [0; 2];
+    let core = steps_in(u, core, slots, a, b, &mut landings, &mut words, samples);
+    let after = core.output;
+    let lost = o.counts.discarded < after.counts.discarded;
+    let turns = turns_behind(o.held, lost, after.held, t);
+    Turned {
+        core: placed(o.place, core),
+        turns,
+    }
+}
+
+// A stretch, the one way or the other.
+pub fn run_stretch(
+    d: Turned,
+    slots: &mut [u32; SLOTS],
+    a: &mut [u8],
+    b: &mut [u8],
+    samples: &[u32],
+) -> Turned
+    requires { ⌜ WellFormed (word-answers.device (d .core) (now slots)) ⌝ }
+    requires { ⌜ TurnsOk (d .core .output) (d .turns) ⌝ }
+    requires { ⌜ Laid (output-answers.left (d .core .output) (now slots)) ⌝ }
+    requires { ⌜ d .core .output .counts .samples + length (now samples) < 2 ^ 32 ⌝ }
+    requires { ⌜ stretch-rules.runs (d .core .output) (d .turns) (length (now a)) (length (now b)) ≡ true ⌝ }
+    requires { ⌜ stretch-rules.Lasts (embedded (d .core .capture .registers .cr)) (d .core .capture) (now samples) ⌝ }
+    ensures { λ r. ⌜ two-answers.two r (now (slots .exit)) (now (a .exit)) (now (b .exit)) ≡ buffer-rules.two-steps (two-answers.two d (now (slots .entry)) (now (a .entry)) (now (b .entry))) (now (samples .entry)) ⌝ }
+{
+    if alone(d.core.output.held, d.turns) {
+        return run_on(d, slots, a, b, samples);
+    }
+    run_behind(d, slots, a, b, samples)
+}
+
 // Vertical blanking with no frame open, or no vertical blanking.
 fn goes_on(blank: bool, in_frame: bool) -> bool
     ensures { λ r. ⌜ r ≡ stretch-rules.goes-on blank «in_frame» ⌝ }
@@ -244,9 +358,9 @@ fn goes_on(blank: bool, in_frame: bool) -> bool
 }
 
 // How far such samples reach from `first` on: data up to the next byte that may begin a code, or those of one level of VSYNC; `first` where there are none.
-fn calm_end(s: Capture, samples: &[u32], first: usize) -> usize
+fn lasting_end(s: Capture, samples: &[u32], first: usize) -> usize
     requires { ⌜ first < length (now samples) ⌝ }
-    ensures { λ r. ⌜ r ≡ stretch-rules.calm-end s (now (samples .entry)) first ⌝ }
+    ensures { λ r. ⌜ r ≡ stretch-rules.lasting-end s (now (samples .entry)) first ⌝ }
 {
     let cr = s.registers.cr;
     if control::embedded(cr) {
@@ -260,13 +374,24 @@ fn calm_end(s: Capture, samples: &[u32], first: usize) -> usize
     first
 }
 
-// How far the samples from `first` on are one stretch; `first` where they begin none.
-pub fn stretch_end(core: Core, t: Turns, samples: &[u32], first: usize) -> usize
-    requires { ⌜ (core .output .held ≤ 32) × (first < length (now samples)) ⌝ }
-    ensures { λ r. ⌜ r ≡ stretch-rules.stretch-end core t (now (samples .entry)) first ⌝ }
+// Held words that let a stretch run.
+fn runs(o: Output, t: Turns, a: usize, b: usize) -> bool
+    requires { ⌜ o .held ≤ 32 ⌝ }
+    ensures { λ r. ⌜ r ≡ stretch-rules.runs o t a b ⌝ }
 {
-    if alone(core.output.held, t) {
-        return calm_end(core.capture, samples, first);
+    if alone(o.held, t) {
+        return true;
+    }
+    no_room(o, t, a, b)
+}
+
+// How far the samples from `first` on are one stretch; `first` where they begin none.
+pub fn stretch_end(core: Core, t: Turns, a: usize, b: usize, samples: &[u32], first: usize) -> usize
+    requires { ⌜ (core .output .held ≤ 32) × (first < length (now samples)) ⌝ }
+    ensures { λ r. ⌜ r ≡ stretch-rules.stretch-end core t a b (now (samples .entry)) first ⌝ }
+{
+    if runs(core.output, t, a, b) {
+        return lasting_end(core.capture, samples, first);
     }
     first
 }

@@ -21,7 +21,7 @@ steps-in-requires c κs =
     let x = two (s .args .d) (s .args .slots .now) (s .args .a .now) (s .args .b .now) in
     let pre = s .pre in
     rw (c .before .before .before .before .before .before .placed .ensures, c .before .before .before .before .before .before .before .oldest-place .ensures)
-    (asks-well x (s .args .w) (pre .0) (pre .1 .0) (pre .1 .1 .0), (asks-laid x (s .args .w) (pre .0) (pre .1 .0) (pre .1 .1 .0), pre .1 .1 .1))
+    (asks-well x (pre .0) (pre .1 .0) (pre .1 .1 .0), (asks-laid x (pre .0) (pre .1 .0) (pre .1 .1 .0), pre .1 .1 .1))
 
 -- The frame buffers after the inner sample, and what it leaves and answers.
 abbrev lent : tie.After-noted-packing → Pair
@@ -55,8 +55,8 @@ after-events-requires c κs =
     let s = c .before .before .before .before .before .before .before .before .before .before .before .before .before .before .before .before .before .before .before .before in
     let x = two (s .args .d) (s .args .slots .now) (s .args .a .now) (s .args .b .now) in
     let pre = s .pre in
-    let low = asks-place x (s .args .w) (pre .0) (pre .1 .0) (pre .1 .1 .0) (pre .1 .1 .1) in
-    let tags = asks-tags x (s .args .w) (pre .0) (pre .1 .0) (pre .1 .1 .0) in (
+    let low = asks-place x (pre .0) (pre .1 .0) (pre .1 .1 .0) (pre .1 .1 .1) in
+    let tags = asks-tags x (pre .0) (pre .1 .0) (pre .1 .1 .0) (s .args .w) in (
       more-lines (omega (arith, pre .1 .1 .1)) (pre .0 .capture),
       (low, λ v e. rw (ap (λ (r : Stepped). r .landing) (is-inner c)) (tags v (sym (ap (λ (r : Stepped). r .packed) (is-inner c)) ∙ e))),
     )

@@ -23,24 +23,24 @@ loop-holds c = let pre = c .before .before .before .pre in starting _ _ (pre .0)
 stretch-end-requires : tie.Need-stretch-end-requires Inv-loop μ-loop
 stretch-end-requires c κs = let g = c .before .loop .inv in (omega (arith, g .laid .fits, g .laid .within), c .loop-test .taken)
 
-sub-run-on : tie.Need-sub-run-on Inv-loop μ-loop
-sub-run-on c = omega (arith, c .before .before .before .if1 .taken)
+sub-run-stretch : tie.Need-sub-run-stretch Inv-loop μ-loop
+sub-run-stretch c = omega (arith, c .before .before .before .if1 .taken)
 
-part-run-on-start : tie.Need-part-run-on-start Inv-loop μ-loop
-part-run-on-start c = omega (arith, c .before .before .before .if1 .taken)
+part-run-stretch-start : tie.Need-part-run-stretch-start Inv-loop μ-loop
+part-run-stretch-start c = omega (arith, c .before .before .before .if1 .taken)
 
-part-run-on-end : tie.Need-part-run-on-end Inv-loop μ-loop
-part-run-on-end c = stretch-to (c .before .before .before .before .stretch-end .ensures) (c .before .before .before .before .before .loop-test .taken) (c .before .before .before .if1 .taken) .inside
+part-run-stretch-end : tie.Need-part-run-stretch-end Inv-loop μ-loop
+part-run-stretch-end c = stretch-to (c .before .before .before .before .stretch-end .ensures) (c .before .before .before .before .before .loop-test .taken) (c .before .before .before .if1 .taken) .inside
 
-run-on-requires : tie.Need-run-on-requires Inv-loop μ-loop
-run-on-requires c κs =
+run-stretch-requires : tie.Need-run-stretch-requires Inv-loop μ-loop
+run-stretch-requires c κs =
     let l = c .before .before .before .before .before .before .before .loop in
     let g = l .inv in
     let s = c .before .before .before .before .before .before .before .before .before .before .before in
     let k = c .before .before .before .before .before .stretch-end .result in
     let is = stretch-to (c .before .before .before .before .before .stretch-end .ensures) (c .before .before .before .before .before .before .loop-test .taken) (c .before .before .before .before .if1 .taken) in
     let long = length-take-le (k - l .i) (drop (l .i) (s .args .samples .now)) (rw length-drop (omega (arith, is .inside))) in
-    (g .well, (g .turns, (g .laid, (omega (arith, long, g .count, is .inside, c .before .before .before .before .if1 .taken, s .pre .1 .1 .1), is .runs))))
+    (g .well, (g .turns, (g .laid, (omega (arith, long, g .count, is .inside, c .before .before .before .before .if1 .taken, s .pre .1 .1 .1), (is .runs, is .lasts)))))
 
 loop-less : tie.Need-loop-less Inv-loop μ-loop
 loop-less c =
@@ -52,7 +52,7 @@ loop-again c =
     let g = c .before .before .before .before .before .before .before .before .before .before .before .before .loop .inv in
     let less = c .before .before .before .before .before .before .before .before .before .if1 .taken in
     let is = stretch-to (c .before .before .before .before .before .before .before .before .before .before .stretch-end .ensures) (c .before .before .before .before .before .before .before .before .before .before .before .loop-test .taken) less in
-    let r = c .before .before .before .before .run-on in
+    let r = c .before .before .before .before .run-stretch in
     turning-far g (two (r .result) (r .last .1 .0) (r .last .1 .1 .0) (r .last .1 .1 .1 .0)) _ (omega (arith, less)) (is .inside) (r .ensures) (r .kept .1 .1 .0) (r .kept .1 .1 .1 .0)
 
 shared-slice-read-w : tie.Need-shared-slice-read-w Inv-loop μ-loop
@@ -94,10 +94,10 @@ two-steps-spec =
     loop-holds
     stretch-end-requires
     (λ c. search needs)
-    sub-run-on
-    part-run-on-start
-    part-run-on-end
-    run-on-requires
+    sub-run-stretch
+    part-run-stretch-start
+    part-run-stretch-end
+    run-stretch-requires
     loop-less
     loop-again
     (λ c. search needs)

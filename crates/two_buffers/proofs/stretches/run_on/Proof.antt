@@ -32,17 +32,19 @@ turns-after-requires c κs =
     let s = c .before .before .before .before .before .before .before .before .before .before .before .before .before .before .before .before .before .before .before .before .before in
     let x = two (s .args .d) (s .args .slots .now) (s .args .a .now) (s .args .b .now) in
     let pre = s .pre in
-    run-held x (pre .0) (pre .1 .0) (pre .1 .1 .0) (s .args .samples .now) _ _ (run-left c) (c .before .before .before .before .before .before .before .before .before .before .before .before .before .before .before .next-buffer .ensures) (c .before .before .before .before .before .before .before .before .before .before .before .before .before .before .first-place .ensures) (c .before .before .before .before .before .before .before .before .before .before .before .before .before .placed .ensures) (c .before .before .before .before .before .before .before .steps-in .ensures .0)
+    run-held x (pre .1 .1 .0) (s .args .samples .now) _ _ (run-left c) (c .before .before .before .before .before .before .before .before .before .before .before .before .before .before .before .next-buffer .ensures) (c .before .before .before .before .before .before .before .before .before .before .before .before .before .before .first-place .ensures) (c .before .before .before .before .before .before .before .before .before .before .before .before .before .placed .ensures) (c .before .before .before .before .before .before .before .steps-in .ensures .0)
 
 returns : tie.Need-returns
 unfolding placed
 returns c =
-    let s = c .before .before .before .before .before .before .before .before .before .before .before .before .before .before .before .before .before .before .before .before .before .before .before .before in
+    let before = c .before .before .before .before .before .before .before .before .before .before in
+    let s = before .before .before .before .before .before .before .before .before .before .before .before .before .before .before in
     let x = two (s .args .d) (s .args .slots .now) (s .args .a .now) (s .args .b .now) in
     let pre = s .pre in
     rw (c .placed2 .ensures)
-    (stretch-run x (pre .0) (pre .1 .0) (pre .1 .1 .0) (s .args .samples .now) _ _ (run-left (c .before .before .before)) (c .before .before .before .before .before .before .before .before .before .before .before .before .before .before .before .before .before .before .next-buffer .ensures) (c .before .before .before .before .before .before .before .before .before .before .before .before .before .before .before .before .before .first-place .ensures) (c .before .before .before .before .before .before .before .before .before .before .before .before .before .before .before .before .placed .ensures)
-    (c .before .before .before .before .before .before .before .before .before .before .steps-in .ensures .0) (lent (c .before .before .before)) (pre .1 .1 .1 .1) (c .before .before .before .before .before .before .before .before .before .before .steps-in .ensures .1) (c .before .before .turns-after .ensures) (c .before .place-a .ensures))
+    (stretch-run x (pre .0) (pre .1 .0) (pre .1 .1 .0) (s .args .samples .now) (pre .1 .1 .1 .1 .1) _ _ (run-left (c .before .before .before)) (lent (c .before .before .before)) (pre .1 .1 .1 .1 .0)
+    (before .before .before .before .before .before .before .before .before .next-buffer .ensures) (before .before .before .before .before .before .before .before .first-place .ensures) (before .before .before .before .before .before .before .placed .ensures)
+    (before .steps-in .ensures .0) (before .steps-in .ensures .1) (c .before .before .turns-after .ensures) (c .before .place-a .ensures))
 
 pub run-on-spec : {M : Type 1} → statement M
 run-on-spec =
