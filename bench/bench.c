@@ -1,8 +1,9 @@
 /* The cost of a sample: the library through the C header, and the plain C model of tests/c, on the same traces.
- * usage: bench lib|one|lib2|one2|file|little|model|model2|none|nofile|trace WIDTH CROP OVERRUN ROWS [TIMES [DEPTH WAITING [SAMPLES]]]
- * one gives the samples one at a time; lib2, one2 and model2 do the same over two memories, in which the pictures land in turn. file runs the trace's
- * file, little over as much memory as the frame printer has. none only makes the trace, nofile makes it and writes its file too: what the others, and what
- * file and little, do besides running. trace prints the file.
+ * usage: bench lib|one|lib2|one2|held2|file|little|model|model2|modelheld2|none|nofile|trace WIDTH CROP OVERRUN ROWS [TIMES [DEPTH WAITING [SAMPLES]]]
+ * one gives the samples one at a time; lib2, one2 and model2 do the same over two memories, in which the pictures land in turn. held2 and modelheld2 take
+ * one picture (CM 1) over memories too short for its last two words, with CROP 0 and no jpeg: these stay held, and CAPTURE is 0 from its end on. file runs
+ * the trace's file, little over as much memory as the frame printer has. none only makes the trace, nofile makes it and writes its file too: what the
+ * others, and what file and little, do besides running. trace prints the file.
  * WIDTH is 8, 10, 12 or 14, jpeg for compressed pictures, with CROP and WAITING 0, or ess for pictures with codes in the data, with WAITING 0; CROP and
  * OVERRUN are 0 or 1; ROWS is the number of rows of a picture, of 660 pixel clocks, two samples a clock. DEPTH is the FIFO's, four where none is named;
  * WAITING is how many words wait in it, at most the depth and only with CROP 0; 0 stands for the reference trace. SAMPLES is how many there are, one
@@ -101,17 +102,18 @@ static void set_up(dcmi_writes *writes, uint8_t offset, uint32_t value)
 int main(int count, char **words)
 {
     if (count < 6 || count == 8)
-        return fprintf(stderr, "usage: bench lib|one|lib2|one2|file|little|model|model2|none|nofile|trace WIDTH CROP OVERRUN ROWS "
-                               "[TIMES [DEPTH WAITING [SAMPLES]]]\n"), 2;
+        return fprintf(stderr, "usage: bench lib|one|lib2|one2|held2|file|little|model|model2|modelheld2|none|nofile|trace WIDTH CROP "
+                               "OVERRUN ROWS [TIMES [DEPTH WAITING [SAMPLES]]]\n"), 2;
     int jpeg = !strcmp(words[2], "jpeg"), ess = !strcmp(words[2], "ess");
     unsigned width = jpeg || ess ? 8 : (unsigned)atoi(words[2]), rows = (unsigned)atoi(words[5]), times = count > 6 ? (unsigned)atoi(words[6]) : 1;
     unsigned depth = count > 8 ? (unsigned)atoi(words[7]) : 4, waiting = count > 8 ? (unsigned)atoi(words[8]) : 0;
     size_t n = count > 9 ? (size_t)atol(words[9]) : (size_t)2 * CLOCKS * rows;
     int crop = atoi(words[3]), overrun = atoi(words[4]);
+    int held2 = !strcmp(words[1], "held2"), modelheld2 = !strcmp(words[1], "modelheld2"), short_of_room = held2 || modelheld2;
     if (rows < 11 || n > MOST_SAMPLES || width < 8 || width > 14 || waiting > depth || (waiting && crop) || (jpeg && (crop || waiting))
-        || (ess && waiting))
+        || (ess && waiting) || (short_of_room && (crop || jpeg)))
         return 2;
-    uint32_t cr = 0x40E1u | (width - 8) / 2 << 10 | (crop ? 4u : 0) | (jpeg ? 8u : 0) | (ess ? 16u : 0);
+    uint32_t cr = 0x40E1u | (short_of_room ? 2u : 0) | (width - 8) / 2 << 10 | (crop ? 4u : 0) | (jpeg ? 8u : 0) | (ess ? 16u : 0);
     uint32_t start = 100 * rows / 490 << 16 | 100, size = (200 * rows / 490 - 1) << 16 | 299; /* of 490 rows 200 lines from line 100 on */
     if (jpeg)
         make_compressed(n, rows, overrun);
@@ -119,7 +121,8 @@ int main(int count, char **words)
         make_coded(n, rows, overrun);
     else
         make(n, rows, overrun, width, waiting);
-    int one2 = !strcmp(words[1], "one2"), model2 = !strcmp(words[1], "model2"), two = one2 || model2 || !strcmp(words[1], "lib2");
+    int one2 = !strcmp(words[1], "one2"), model2 = modelheld2 || !strcmp(words[1], "model2");
+    int two = one2 || model2 || held2 || !strcmp(words[1], "lib2");
     int one = one2 || !strcmp(words[1], "one"), little = !strcmp(words[1], "little"), run = little || !strcmp(words[1], "file");
     int trace = !strcmp(words[1], "trace"), filed = run || trace || !strcmp(words[1], "nofile");
 
@@ -135,13 +138,14 @@ int main(int count, char **words)
     if (trace)
         return fwrite(file, 1, length, stdout) != length;
 
+    size_t room_two = short_of_room ? (size_t)(rows - 10) * COLUMNS * (width == 8 ? 1 : 2) - 8 : sizeof memory; /* of each of two memories */
     unsigned landed = 0, held = 0;
     double best = 1e9;
     for (unsigned k = 0; k < times; k++) {
         double begin = seconds();
         if (model2 || !strcmp(words[1], "model")) {
             camera c;
-            lent both[BUFFERS] = { { memory, sizeof memory, 0 }, { memory_b, sizeof memory_b, 0 } };
+            lent both[BUFFERS] = { { memory, room_two, 0 }, { memory_b, room_two, 0 } };
             if (model_reset_depth(&c, depth) || (two && model_two_buffers(&c)))
                 return 1;
             for (size_t i = 0; i < writes.count; i++)
@@ -156,10 +160,10 @@ int main(int count, char **words)
                 return 1;
             for (size_t i = 0; i < writes.count; i++)
                 dcmi_write(&d, writes.offset[i], writes.value[i]);
-            if (!one && dcmi_run_two(&d, memory, sizeof memory, 0, memory_b, sizeof memory_b, 0, samples, n))
+            if (!one && dcmi_run_two(&d, memory, room_two, 0, memory_b, room_two, 0, samples, n))
                 return 1;
             for (size_t i = 0; one && i < n; i++)
-                if (dcmi_sample_two(&d, memory, sizeof memory, 0, memory_b, sizeof memory_b, 0, samples[i], &answer))
+                if (dcmi_sample_two(&d, memory, room_two, 0, memory_b, room_two, 0, samples[i], &answer))
                     return 1;
             landed = d.word[DCMI_W_LANDED], held = d.word[DCMI_W_HELD];
         } else if (one || !strcmp(words[1], "lib")) {

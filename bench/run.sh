@@ -98,6 +98,24 @@ row_two 8 0 98 5
 row_two jpeg 0 98 5
 row_two ess 0 98 5
 row_two ess 1 98 5
+
+# one picture, whose last two words have no room; CAPTURE is 0 at the four after it
+echo
+echo '| bits | rows | pictures | words held | `dcmi_run_two`: instructions, ns | model in mode two, C at -O2 |'
+echo '|---|---|---|---|---|---|'
+# row_held WIDTH ROWS PICTURES
+row_held() {
+    local bits=$1 samples=$((1320 * $2 * $3)) which
+    [ "$1" = ess ] && bits='8, codes'
+    local line="| $bits | $2 | $3 | 2 |"
+    for which in held2 modelheld2; do
+        count_cost $which "$1" 0 0 "$2" 4 0 $samples
+        line="$line $cost, $(took $which "$1" 0 0 "$2" 4 0 $samples) |"
+    done
+    echo "$line"
+}
+row_held 14 98 5
+row_held ess 98 5
 echo
 count_cost one2 14 0 0 98 4 0 646800
 echo "\`dcmi_sample_two\`, 14 bits, 98 rows, five pictures, depth 4, at most 1 word waiting: $cost instructions a call, $(took one2 14 0 0 98 4 0 646800) ns."
