@@ -27,9 +27,8 @@ use Rattle.refusals.specs.Refusals.{Answer, refused, answered, answer}
 use Rattle.registers.specs.Map.{register-at}
 use Rattle.registers.specs.declared.Found.{Found}
 use Rattle.registers.specs.declared.Found.the-variants.{At, Nothing}
-use Rattle.output.specs.Output.{OutputState, contents, with-held, holding, with-counts, with-place, count-discarded, bytes, discard}
+use Rattle.output.specs.Output.{OutputState, contents, with-held, holding, with-place, bytes, discard}
 use Rattle.output.specs.WellFormed.{bad-depth}
-use Rattle.output.proofs.Contents.{contents-holding}
 use Rattle.rules.specs.declared.Device.{Device}
 use Rattle.rules.specs.State.{capture-of, output-of}
 use Rattle.rules.specs.Capture.{enabled}
@@ -46,11 +45,10 @@ use Rattle.board_rules.specs.State.{is-two, kept, malformed}
 use Rattle.board_rules.specs.BoardCalls as board-calls
 use Rattle.board_rules.specs.BoardCalls.{mode-after, write, rearmed-mode, rearm, set-mode}
 use Rattle.board_rules.specs.BoardRuns.{one-refusal, run, sample, Lent, Both, frame-buffer, refilled, beyond, lent, memories, buffers, filled, two-refusal, turns-of, opened, board, run-two, sample-two}
-use Rattle.board_rules.specs.HandingBack.{Handed, frame-in, span, span-of, spans, handing-refusal, handed-from, handed-latest, latest-frame, hand-back, handed-part}
+use Rattle.board_rules.specs.HandingBack.{Handed, frame-in, span-of, spans, handing-refusal, handed-from, handed-latest, latest-frame, hand-back, handed-part}
 use Rattle.board_rules.specs.TwoBuffers as buffer-rules
 use Rattle.board_rules.specs.TwoBuffers.{Pair, part, two-steps}
-use Rattle.board_laws.specs.BoardHistories as board-histories
-use Rattle.board_laws.specs.BoardHistories.{Call, after, after-all, reached, on-device, rearmed, mode-set, two-samplings, samplings-of, changes-of, device-events, happenings, happenings-of-all, history, frame-events, tell, tell-all, frames}
+use Rattle.board_laws.specs.BoardHistories.{Call, after, after-all, on-device, rearmed, mode-set, two-samplings, samplings-of, changes-of, device-events, happenings, happenings-of-all, history, frame-events, tell, tell-all, frames}
 use Rattle.board_laws.specs.Handing.{Bare, a-write, a-rearming, one-buffer, two-buffers, a-run, a-sample, a-run-two, a-sample-two, over, with-memories, left, calls, left-by, board-after, memories-after, frames-after, frame-handed, to-hand, all-bytes}
 use Rattle.board_laws.proofs.BoardConservation.{board-facts, write-counted, call-keeps, fresh-board-well, never-malformed}
 use Rattle.board_laws.proofs.AsDevice.{two-steps-enable}

@@ -16,12 +16,12 @@ use Rattle.bits.specs.Bits.{bit}
 use Rattle.bits.proofs.Booleans.{and-true, by-cond}
 use Rattle.buffers.specs.declared.Buffer.{Buffer}
 use Rattle.buffers.specs.declared.Buffer.the-variants.{A, B}
-use Rattle.buffers.specs.Turns.{other, is-b, oldest-buffer, oldest-opens, next-place, oldest-place}
-use Rattle.buffers.specs.Story.{Tale, completed, running, waiting, any-waiting, first-of, one-more, word-of, one-landed, landing-of, by-rule-4, end-of, closed-otherwise, armed-anew, same, frame-in}
-use Rattle.buffers.specs.Kept.{Kept, place-in}
+use Rattle.buffers.specs.Turns.{other, oldest-buffer, oldest-opens, next-place, oldest-place}
+use Rattle.buffers.specs.Story.{Tale, completed, running, any-waiting, first-of, one-more, word-of, one-landed, landing-of, by-rule-4, end-of, closed-otherwise, armed-anew, same, frame-in}
+use Rattle.buffers.specs.Kept.{Kept}
 use Rattle.buffers.proofs.Frames.{Sound, eldest, eldest-waits, eldest-counts}
 use Rattle.buffers.proofs.Tags.{Tag, in-b, opening, weigh, weigh-first, tag-of, queue, queue-landing}
-use Rattle.buffers.proofs.Sights.{Sight, sight-of, sight-in, skip, frame-landing, same-same, same-is, frame-eldest}
+use Rattle.buffers.proofs.Sights.{Sight, sight-of, sight-in, skip, frame-landing, frame-eldest}
 use Rattle.buffers.proofs.Told.{Tells, oldest-is}
 use Rattle.buffers.proofs.Words.{held-words, words-none, words-word, words-landing, words-closed, words-end, words-armed}
 use Rattle.output.specs.Output.{bytes, room, stored}

@@ -7,3 +7,4 @@ pub mod AsBefore
 pub mod InBuffers
 pub mod SampleHolds
 pub mod HandedBack
+pub mod HandingExample

@@ -1,7 +1,7 @@
 -- Samples with two frame buffers keep held words and buffers as the story's frames tell (`two-steps-hold`).
 -- The idea: rule 1 takes the oldest held word and stores it in its buffer at its place, which is what a landing is told to do; rule 9 and ERR do to the held words what their events say.
 -- Assumes nothing.
-use mathlib.Core.Bool.{Bool, true, false, cond, not, _&&_}
+use mathlib.Core.Bool.{Bool, true, false, cond, _&&_}
 use mathlib.Core.List.{List, [], _∷_, _++_, map}
 use mathlib.Core.Option.{Option, none, some}
 use mathlib.Core.Path.{_≡_, refl, sym, ap, _∙_, subst}

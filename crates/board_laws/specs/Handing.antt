@@ -1,5 +1,5 @@
 -- W2: lists of calls with one pair of memories and starts handed on, each call over the memories that the last one left; and what handing back has to answer after them, by the history alone.
-use mathlib.Core.Bool.{Bool, cond, _||_}
+use mathlib.Core.Bool.{cond, _||_}
 use mathlib.Core.List.{List, [], _∷_, _++_}
 use mathlib.Core.Option.{Option, none, some}
 use Prim.Native.Nat.{ℕ, _*_, _<_, _^_}

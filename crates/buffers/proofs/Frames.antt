@@ -1,9 +1,9 @@
 -- What holds of the story's frames after every list of events (`Sound`): each has counts that fit, no word of it lands while an older one waits, and only the newest may be open.
 -- By induction on the frames, an event at a time. Assumes nothing.
 use mathlib.Core.Bool.{Bool, true, false, cond, not, _&&_, _||_, true≢false, false≢true}
-use mathlib.Core.List.{List, [], _∷_, _++_, map}
+use mathlib.Core.List.{List, [], _∷_, map}
 use mathlib.Core.Path.{_≡_, refl, sym, ap, _∙_}
-use Prim.Native.Nat.{ℕ, _≤_}
+use Prim.Native.Nat.{ℕ, _+_, _≤_}
 use native.Mathlib.Omega.{arith}
 use lib.Dec.{ltb}
 use lib.ListN.{length, length-append}
@@ -81,6 +81,9 @@ sound-landing (f ∷ fs) s =
     (λ n. by-cond Sound (waiting f) _ _ (λ w. (landed-counts f (s .0) w, λ v. contra v n, s .2, s .3)) (λ v. s))
 
 -- A word.
+pub more-words : (vs : List ℕ) (f : Tale) → completed (one-more vs f) ≡ completed f + length vs
+more-words vs f = rw length-append (omega arith)
+
 pub sound-word : (v : ℕ) (fs : List Tale) → Sound fs → Sound (word-of (v ∷ []) fs)
 unfolding word-of any-waiting
 sound-word v [] s = (record { recent = omega arith; part = omega arith; filled = λ z. omega arith }, λ e. refl, refl, tt)
@@ -88,7 +91,7 @@ sound-word v (f ∷ fs) s =
     by-cond Sound (running f) _ _
     (λ e.
     let c = s .0 in
-    (record { recent = c .recent; part = rw length-append (omega (arith, c .part)); filled = λ z. rw length-append (omega arith) }, s .1, s .2, s .3))
+    (record { recent = c .recent; part = omega (arith, c .part, more-words (v ∷ []) f); filled = λ z. omega (arith, more-words (v ∷ []) f) }, s .1, s .2, s .3))
     (λ e. (record { recent = omega arith; part = omega arith; filled = λ z. omega arith }, λ e. refl, e, s))
 
 pub open-word : (vs : List ℕ) (fs : List Tale) → any-open (word-of vs fs) ≡ true
@@ -166,16 +169,16 @@ unfolding word-of
 sound-lost [] s = (record { recent = omega arith; part = omega arith; filled = λ e. absurd (true≢false e) }, λ e. refl, refl, tt)
 sound-lost (f ∷ fs) s =
     by-cond (λ (l : List Tale). Sound (map closed-otherwise l)) (running f) _ _
-    (λ e. let t = sound-closed (f ∷ fs) s in let c = s .0 in (record { recent = c .recent; part = rw length-append (omega (arith, c .part)); filled = λ g. absurd (true≢false (sym (lost-gone f e) ∙ g)) }, t .1, t .2, t .3))
+    (λ e.
+    let t = sound-closed (f ∷ fs) s in
+    let c = s .0 in
+    (record { recent = c .recent; part = omega (arith, c .part, more-words [] f); filled = λ g. absurd (true≢false (sym (lost-gone (f .gone) (running f) _ e) ∙ g)) }, t .1, t .2, t .3))
     (λ e. (record { recent = omega arith; part = omega arith; filled = λ e. absurd (true≢false e) }, λ e. refl, open-closed (f ∷ fs), sound-closed (f ∷ fs) s))
   where
-    lost-gone : (f : Tale) → running f ≡ true → closed-otherwise (one-more [] f) .gone ≡ true
-    lost-gone f e = go (f .gone) (running f) e
-      where
-        go : (b c : Bool) → c ≡ true → b || (c || (not b && ltb (f .landed) (length (f .words ++ [])))) ≡ true
-        go true c e = refl
-        go false true e = refl
-        go false false e = absurd (false≢true e)
+    lost-gone : (gone goes waits : Bool) → goes ≡ true → gone || (goes || waits) ≡ true
+    lost-gone true goes waits e = refl
+    lost-gone false true waits e = refl
+    lost-gone false false waits e = absurd (false≢true e)
 
 -- Re-arming.
 pub waiting-armed : (fs : List Tale) → any-waiting (map armed-anew fs) ≡ any-waiting fs

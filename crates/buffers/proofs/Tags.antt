@@ -6,14 +6,14 @@ use mathlib.Core.Path.{_≡_, refl, sym, ap, _∙_}
 use Prim.Native.Nat.{ℕ, zero, suc, _+_, _-_, _*_, _/_, _%_, _^_, _≤_, _<_}
 use native.Mathlib.Omega.{arith}
 use lib.Dec.{eqb, ltb}
-use lib.ListN.{length, length-append}
+use lib.ListN.{length}
 use borrow.Author.Tests.{ltb-true, ltb-false, lt-ltb, eq-eqb, ne-eqb, not-true}
 use Rattle.bits.specs.Bits.{bit}
 use Rattle.bits.proofs.Booleans.{or-false, and-true, either, and-zero}
 use Rattle.buffers.specs.declared.Buffer.{Buffer}
 use Rattle.buffers.specs.Turns.{is-b}
 use Rattle.buffers.specs.Story.{Tale, completed, running, waiting, any-waiting, last-buffer, one-more, word-of, one-landed, landing-of, end-of, armed-anew}
-use Rattle.buffers.proofs.Frames.{any-open, Counts, Sound, eldest}
+use Rattle.buffers.proofs.Frames.{any-open, Counts, Sound, eldest, more-words}
 
 pub record Tag : Type 0 where
   pub buffer : Buffer
@@ -125,7 +125,7 @@ queue-none (f ∷ fs) e = let (a, b) = or-false (waiting f) (any-waiting fs) e i
 
 -- A word comes last.
 frame-more : (v : ℕ) (f : Tale) → Counts f → f .gone ≡ false → tags-of (one-more (v ∷ []) f) ≡ tags-of f ++ (tag (f .buffer) false ∷ [])
-frame-more v f c g = rw (g, length-append (f .words) (v ∷ [])) (tags-more (f .buffer) (f .landed) (completed f) (c .part) (c .filled g))
+frame-more v f c g = rw (g, more-words (v ∷ []) f) (tags-more (f .buffer) (f .landed) (completed f) (c .part) (c .filled g))
 
 pub is-open : (f : Tale) → running f ≡ true → (f .ended ≡ false) × (f .gone ≡ false)
 is-open f e = let (a, b) = and-true (not (f .ended)) (not (f .gone)) e in (not-true _ a, not-true _ b)
