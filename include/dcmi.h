@@ -124,13 +124,14 @@ typedef struct dcmi_answer {
     uint64_t value;  /* the completed word; 0 if none was, or it was lost */
 } dcmi_answer;
 
-/* Where the latest complete frame is, in mode two: nowhere, or from byte `offset` of A or B on, `length` bytes; or its memory is too short for it. */
-enum { DCMI_NO_FRAME = 0, DCMI_FRAME_IN_A = 1, DCMI_FRAME_IN_B = 2, DCMI_TOO_SHORT = 3 };
+/* Where the latest complete frame is, in mode two: nowhere, or from byte `offset` of A or B on, `length` bytes; or that memory is too short for it, and must
+ * have at least `offset` + `length` bytes. */
+enum { DCMI_NO_FRAME = 0, DCMI_FRAME_IN_A = 1, DCMI_FRAME_IN_B = 2, DCMI_TOO_SHORT_A = 3, DCMI_TOO_SHORT_B = 4 };
 
 typedef struct dcmi_frame {
-    uint64_t kind;   /* DCMI_NO_FRAME, DCMI_FRAME_IN_A, DCMI_FRAME_IN_B or DCMI_TOO_SHORT */
-    uint64_t offset; /* that memory's start byte; else 0 */
-    uint64_t length; /* 4 for each word of the frame; else 0 */
+    uint64_t kind;   /* DCMI_NO_FRAME, DCMI_FRAME_IN_A, DCMI_FRAME_IN_B, DCMI_TOO_SHORT_A or DCMI_TOO_SHORT_B */
+    uint64_t offset; /* that memory's start byte; 0 without a frame */
+    uint64_t length; /* 4 for each word of the frame; 0 without one */
 } dcmi_frame;
 
 /* A trace file, version 1 or 2, all numbers little-endian:

@@ -523,7 +523,7 @@ uint32_t check_latest_frame(size_t length_a, size_t start_a, size_t length_b, si
     dcmi_frame *lent_frame = lend_output(&g_output, want_frame, sizeof want_frame);
     if (model_from_image(&c, want_device)) want = model_latest_frame(&c, now.lent, &found);
     if (!want) {
-        static const uint64_t kinds[] = { DCMI_NO_FRAME, DCMI_FRAME_IN_A, DCMI_FRAME_IN_B, DCMI_TOO_SHORT };
+        static const uint64_t kinds[] = { DCMI_NO_FRAME, DCMI_FRAME_IN_A, DCMI_FRAME_IN_B, DCMI_TOO_SHORT_A, DCMI_TOO_SHORT_B };
         want_frame[0] = kinds[found.kind];
         want_frame[1] = found.offset;
         want_frame[2] = found.length;

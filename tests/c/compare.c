@@ -1106,7 +1106,8 @@ static void hands_of(const char *what, const size_t *of, uint32_t answer, uint64
     expect(what, answer, check_latest_frame(of[0], of[1], of[2], of[3], &frame));
     if (answer) return;
     expect(what, kind, frame.kind);
-    expect(what, kind == DCMI_FRAME_IN_A ? of[1] : kind == DCMI_FRAME_IN_B ? of[3] : 0, frame.offset);
+    const bool in_a = kind == DCMI_FRAME_IN_A || kind == DCMI_TOO_SHORT_A, in_b = kind == DCMI_FRAME_IN_B || kind == DCMI_TOO_SHORT_B;
+    expect(what, in_a ? of[1] : in_b ? of[3] : 0, frame.offset);
     expect(what, 4 * words, frame.length);
 }
 
@@ -1325,13 +1326,13 @@ static void paper_handing_back(void)
     lands("W2, B", IN_B, 4);
     lands("W2, B", IN_B, 8);
     hands("W2, B", DCMI_FRAME_IN_B, 2);
-    HANDS_OF("W2, too short by a byte", 0, DCMI_TOO_SHORT, 0, 12, 0, 11, 4);
-    HANDS_OF("W2, too short without a byte", 0, DCMI_TOO_SHORT, 0, 12, 0, 8, 8);
-    HANDS_OF("W2, it would do without the start", 0, DCMI_TOO_SHORT, 0, 12, 0, 8, 1);
+    HANDS_OF("W2, too short by a byte", 0, DCMI_TOO_SHORT_B, 2, 12, 0, 11, 4);
+    HANDS_OF("W2, too short without a byte", 0, DCMI_TOO_SHORT_B, 2, 12, 0, 8, 8);
+    HANDS_OF("W2, it would do without the start", 0, DCMI_TOO_SHORT_B, 2, 12, 0, 8, 1);
     HANDS_OF("W2, A plays no part", 0, DCMI_FRAME_IN_B, 2, 0, 0, 8, 0);
     HANDS_OF("W2, at the end", 0, DCMI_FRAME_IN_B, 2, 12, 12, 100, 92);
     HANDS_OF("W2, far away", 0, DCMI_FRAME_IN_B, 2, 0, 0, SIZE_MAX, SIZE_MAX - 8);
-    HANDS_OF("W2, far away, too short", 0, DCMI_TOO_SHORT, 0, 0, 0, SIZE_MAX, SIZE_MAX - 7);
+    HANDS_OF("W2, far away, too short", 0, DCMI_TOO_SHORT_B, 2, 0, 0, SIZE_MAX, SIZE_MAX - 7);
     HANDS_OF("W2, start of A", 9, 0, 0, 3, 4, 12, 0);
     HANDS_OF("W2, start of B", 9, 0, 0, 12, 0, 3, 4);
     HANDS_OF("W2, start of A, B too short", 9, 0, 0, 3, 4, 4, 0);
@@ -1353,13 +1354,13 @@ static void paper_far_frame(void)
     const size_t bytes = (size_t)4 * UINT32_MAX, above = (size_t)1 << 32;
     set_device(image);
     HANDS_OF("W2, a long frame", 0, DCMI_FRAME_IN_A, UINT32_MAX, bytes + 5, 5, 0, 0);
-    HANDS_OF("W2, a long frame, too short", 0, DCMI_TOO_SHORT, 0, bytes + 4, 5, above, 0);
-    HANDS_OF("W2, its low 32 bits", 0, DCMI_TOO_SHORT, 0, (uint32_t)bytes, 0, 0, 0);
+    HANDS_OF("W2, a long frame, too short", 0, DCMI_TOO_SHORT_A, UINT32_MAX, bytes + 4, 5, above, 0);
+    HANDS_OF("W2, its low 32 bits", 0, DCMI_TOO_SHORT_A, UINT32_MAX, (uint32_t)bytes, 0, 0, 0);
     image[DCMI_W_LATEST] = 1;
     set_device(image);
     HANDS_OF("W2, a long frame in B", 0, DCMI_FRAME_IN_B, 0x40000000, 0, 0, above, 0);
-    HANDS_OF("W2, a long frame in B, too short", 0, DCMI_TOO_SHORT, 0, above, 0, above - 1, 0);
-    HANDS_OF("W2, its low 32 bits", 0, DCMI_TOO_SHORT, 0, above, 0, 0, 0);
+    HANDS_OF("W2, a long frame in B, too short", 0, DCMI_TOO_SHORT_B, 0x40000000, above, 0, above - 1, 0);
+    HANDS_OF("W2, its low 32 bits", 0, DCMI_TOO_SHORT_B, 0x40000000, above, 0, 0, 0);
     image[DCMI_W_PLACE_B] = 0;
     set_device(image);
     HANDS_OF("W2, no word", 0, DCMI_FRAME_IN_B, 0, above, 0, 7, 7);

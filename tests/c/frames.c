@@ -148,10 +148,11 @@ const char *frames_call(const call *made)
     if (accepted && made->kind == REARM) rearmed();
     if (accepted && made->kind == WRITE && disabled) held = 0, open = NULL;
     const shot *s = latest();
-    if (accepted && made->kind == LATEST_FRAME && made->output != DCMI_TOO_SHORT) {
-        const uint64_t kind = !s ? DCMI_NO_FRAME : s == in[BUFFER_A] ? DCMI_FRAME_IN_A : DCMI_FRAME_IN_B;
+    if (accepted && made->kind == LATEST_FRAME) {
+        const bool is_short = made->output == DCMI_TOO_SHORT_A || made->output == DCMI_TOO_SHORT_B;
+        const uint64_t in_a = is_short ? DCMI_TOO_SHORT_A : DCMI_FRAME_IN_A, in_b = is_short ? DCMI_TOO_SHORT_B : DCMI_FRAME_IN_B;
+        const uint64_t kind = !s ? DCMI_NO_FRAME : s == in[BUFFER_A] ? in_a : in_b;
         if (made->output != kind || made->part_length != (s ? 4 * (uint64_t)s->completed : 0)) return "the frame that is handed back is not as W2 says";
     }
-    if (accepted && made->kind == LATEST_FRAME && made->output == DCMI_TOO_SHORT && !s) return "no frame is complete, and too short is answered";
     return wrong(made->after);
 }

@@ -635,7 +635,7 @@ static uint32_t set_mode(camera *c, buffer_mode mode)
 uint32_t model_one_buffer(camera *c) { return set_mode(c, MODE_ONE); }
 uint32_t model_two_buffers(camera *c) { return set_mode(c, MODE_TWO); }
 
-/* W2: of the frames that are complete now the one that became so last. 1, 16, 9. "Too short" is about its memory alone. */
+/* W2: of the frames that are complete now the one that became so last. 1, 16, 9. "Too short" is about its memory alone, and says which and for how much. */
 uint32_t model_latest_frame(const camera *c, const lent both[BUFFERS], handed *out)
 {
     if (malformed(c)) return 1;
@@ -645,8 +645,10 @@ uint32_t model_latest_frame(const camera *c, const lent both[BUFFERS], handed *o
     const buffer of = c->in[c->latest] == CONTENT_COMPLETE ? c->latest : other(c->latest);
     if (c->in[of] != CONTENT_COMPLETE) return 0;
     const uint64_t bytes = 4 * (uint64_t)c->place[of];
-    if (bytes > both[of].length - both[of].start) out->kind = HANDED_TOO_SHORT;
-    else *out = (handed){ of == BUFFER_A ? HANDED_A : HANDED_B, both[of].start, bytes };
+    const bool is_short = bytes > both[of].length - both[of].start;
+    out->kind = of == BUFFER_A ? (is_short ? HANDED_SHORT_A : HANDED_A) : (is_short ? HANDED_SHORT_B : HANDED_B);
+    out->offset = both[of].start;
+    out->length = bytes;
     return 0;
 }
 

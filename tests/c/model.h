@@ -64,8 +64,8 @@ typedef struct outcome {
     uint32_t word;   /* the completed word, else 0 */
 } outcome;
 
-/* W2: what handing back answers, and the part of that memory. */
-typedef enum { HANDED_NONE, HANDED_A, HANDED_B, HANDED_TOO_SHORT } handed_kind;
+/* W2: what handing back answers, and the part of that memory, or the part that it should have. */
+typedef enum { HANDED_NONE, HANDED_A, HANDED_B, HANDED_SHORT_A, HANDED_SHORT_B } handed_kind;
 
 typedef struct handed {
     handed_kind kind;

@@ -1347,9 +1347,10 @@ static void reached_mode(const camera *before, const camera *after)
 /* What handing back answers. */
 static void reached_handed(const call *made, const camera *c)
 {
-    const bool a = made->output == DCMI_FRAME_IN_A, b = made->output == DCMI_FRAME_IN_B, some = a || b, is_short = made->output == DCMI_TOO_SHORT;
+    const bool a = made->output == DCMI_FRAME_IN_A, b = made->output == DCMI_FRAME_IN_B, some = a || b;
+    const bool short_a = made->output == DCMI_TOO_SHORT_A, is_short = short_a || made->output == DCMI_TOO_SHORT_B;
     const bool complete_a = c->in[BUFFER_A] == CONTENT_COMPLETE, complete_b = c->in[BUFFER_B] == CONTENT_COMPLETE, both = complete_a && complete_b;
-    const buffer of = a || (is_short && (both ? c->latest == BUFFER_A : complete_a)) ? BUFFER_A : BUFFER_B, away = 1 - of;
+    const buffer of = a || short_a ? BUFFER_A : BUFFER_B, away = 1 - of;
     const lent *m = &made->lent[of], *other = &made->lent[away];
     const uint64_t bytes = 4 * (uint64_t)c->place[of], rest = m->length - m->start;
     seen(a, W2_HANDED_A);
@@ -1361,7 +1362,7 @@ static void reached_handed(const call *made, const camera *c)
     for (uint32_t i = 0; some && i < c->held; i++) seen((c->opening >> i & 1) && (c->in_b >> i & 1) == of, W2_HANDED_HELD);
     seen(made->output == DCMI_NO_FRAME && !c->landed, W2_HANDED_NONE);
     seen(made->output == DCMI_NO_FRAME && c->in[BUFFER_A] == CONTENT_LANDING && c->in[BUFFER_B] == CONTENT_LANDING, W2_HANDED_LANDING);
-    seen(is_short, of == BUFFER_A ? W2_HANDED_SHORT_A : W2_HANDED_SHORT_B);
+    seen(is_short && made->part_offset == m->start && made->part_length == bytes, short_a ? W2_HANDED_SHORT_A : W2_HANDED_SHORT_B);
     seen(is_short && both && 4 * (uint64_t)c->place[away] <= other->length - other->start, W2_HANDED_NO_OLDER);
     seen(some && bytes && bytes == rest && made->part_length == bytes, W2_HANDED_EXACT);
     seen(is_short && bytes == rest + 1, W2_HANDED_ONE_LESS);

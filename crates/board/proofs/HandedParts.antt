@@ -44,12 +44,12 @@ from-there : (u : Buffer) (n : ℕ) (l : Both) → lent u l .start ≤ length (l
 unfolding handed-from Named
 from-there A n l h = go (ltb (length (l .a .memory) - l .a .start) n) refl
   where
-    go : (b : Bool) → ltb (length (l .a .memory) - l .a .start) n ≡ b → Named (answered (cond b too-short (frame-in A n))) l
+    go : (b : Bool) → ltb (length (l .a .memory) - l .a .start) n ≡ b → Named (answered (cond b (too-short A n) (frame-in A n))) l
     go true e = tt
     go false e = omega (arith, ltb-false (length (l .a .memory) - l .a .start) n e)
 from-there B n l h = go (ltb (length (l .b .memory) - l .b .start) n) refl
   where
-    go : (b : Bool) → ltb (length (l .b .memory) - l .b .start) n ≡ b → Named (answered (cond b too-short (frame-in B n))) l
+    go : (b : Bool) → ltb (length (l .b .memory) - l .b .start) n ≡ b → Named (answered (cond b (too-short B n) (frame-in B n))) l
     go true e = tt
     go false e = omega (arith, ltb-false (length (l .b .memory) - l .b .start) n e)
 

@@ -96,19 +96,23 @@ two-sampled s ma mb = record { answer = two-reply (s .reply); board = s .board; 
 -- Where the latest complete frame is.
 abbrev pub handed : Handed → Answer handing-rules.Handed
 handed handed-cases.Nothing = answered handing-rules.nothing
-handed handed-cases.TooShort = answered handing-rules.too-short
+handed (handed-cases.TooShort u bytes) = answered (handing-rules.too-short u bytes)
 handed (handed-cases.FrameIn u bytes) = answered (handing-rules.frame-in u bytes)
 handed (handed-cases.Refused e) = refused (number e)
 
--- As two numbers: the refusal's, 0 where the call is accepted; and 0 no frame, 1 one in A, 2 in B, 3 a memory too short.
+-- As two numbers: the refusal's, 0 where the call is accepted; and 0 no frame, 1 one in A, 2 in B, 3 A's memory too short, 4 B's.
 abbrev pub kind-in : Buffer → ℕ
 kind-in A = 1
 kind-in B = 2
 
+abbrev pub kind-short : Buffer → ℕ
+kind-short A = 3
+kind-short B = 4
+
 abbrev pub told : Answer handing-rules.Handed → List ℕ
 told (refused n) = n ∷ 0 ∷ []
 told (answered handing-rules.nothing) = 0 ∷ 0 ∷ []
-told (answered handing-rules.too-short) = 0 ∷ 3 ∷ []
+told (answered (handing-rules.too-short u bytes)) = 0 ∷ kind-short u ∷ []
 told (answered (handing-rules.frame-in u bytes)) = 0 ∷ kind-in u ∷ []
 
 abbrev pub span : ℕ → ℕ → handing-rules.Span
@@ -121,5 +125,5 @@ spans la sa lb sb = record { a = span la sa; b = span lb sb }
 unfoldable pub Named : Answer handing-rules.Handed → board-runs.Both → Type 0
 Named (refused n) l = Unit {0}
 Named (answered handing-rules.nothing) l = Unit {0}
-Named (answered handing-rules.too-short) l = Unit {0}
+Named (answered (handing-rules.too-short u bytes)) l = Unit {0}
 Named (answered (handing-rules.frame-in u bytes)) l = board-runs.lent u l .start + bytes ≤ length (board-runs.lent u l .memory)

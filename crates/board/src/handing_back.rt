@@ -37,7 +37,7 @@ fn handed_from(u: Buffer, bytes: usize, length: usize, start: usize) -> Handed
     ensures { λ r. ⌜ call-answers.handed r ≡ answered (handing-rules.handed-from u bytes (call-answers.span length start)) ⌝ }
 {
     if length - start < bytes {
-        return Handed::TooShort;
+        return Handed::TooShort(u, bytes);
     }
     Handed::FrameIn(u, bytes)
 }
@@ -141,7 +141,7 @@ fn part_of<'m>(
 {
     match handed {
         Handed::Nothing => no_part(memory_a),
-        Handed::TooShort => no_part(memory_a),
+        Handed::TooShort(_, _) => no_part(memory_a),
         Handed::Refused(_) => no_part(memory_a),
         Handed::FrameIn(u, bytes) => match u {
             Buffer::A => part_in(memory_a, start_a, bytes),
@@ -150,17 +150,39 @@ fn part_of<'m>(
     }
 }
 
-// An answer as two numbers: the refusal's, 0 where the call is accepted; and 0 for no frame, 1 for one in A, 2 in B, 3 for a memory too short.
+// The second number of an answer: 1 for a frame in A, 2 in B; 3 for A's memory too short, 4 for B's.
+fn kind_in(u: Buffer) -> u32
+    ensures { λ r. ⌜ r ≡ call-answers.kind-in u ⌝ }
+{
+    match u {
+        Buffer::A => 1,
+        Buffer::B => 2,
+    }
+}
+
+fn kind_short(u: Buffer) -> u32
+    ensures { λ r. ⌜ r ≡ call-answers.kind-short u ⌝ }
+{
+    match u {
+        Buffer::A => 3,
+        Buffer::B => 4,
+    }
+}
+
+// An answer as two numbers: the refusal's, 0 where the call is accepted; and the second, 0 for no frame.
 fn told(handed: Handed) -> [u32; 2]
     ensures { λ r. ⌜ r ≡ call-answers.told (call-answers.handed handed) ⌝ }
 {
     match handed {
         Handed::Nothing => [0, 0],
-        Handed::TooShort => [0, 3],
-        Handed::FrameIn(u, _) => match u {
-            Buffer::A => [0, 1],
-            Buffer::B => [0, 2],
-        },
+        Handed::TooShort(u, _) => {
+            let kind = kind_short(u);
+            [0, kind]
+        }
+        Handed::FrameIn(u, _) => {
+            let kind = kind_in(u);
+            [0, kind]
+        }
         Handed::Refused(refusal) => {
             let number = refusal.number();
             [number, 0]
@@ -168,8 +190,8 @@ fn told(handed: Handed) -> [u32; 2]
     }
 }
 
-// The part of A or B that holds the latest complete frame, and in `answer` two numbers: which it is, or that there is none, its memory is too short, or the
-// call is refused: 1, 16, 9.
+// The part of A or B that holds the latest complete frame, and in `answer` two numbers: which it is, or that there is none, which memory is too short for it, or
+// that the call is refused: 1, 16, 9.
 pub fn hand_back<'m, 'r>(
     b: Board,
     memory_a: &'m [u8],

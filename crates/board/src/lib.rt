@@ -69,10 +69,10 @@ struct TwoAccepted {
     packing: Packing,
 }
 
-// Where the latest complete frame is: no frame is complete; its memory is too short; or it is in a buffer, with so many bytes from that memory's start on.
+// Where the latest complete frame is: no frame is complete; that buffer's memory is too short for so many bytes from its start on; or the frame is in a buffer, with so many.
 pub enum Handed {
     Nothing,
-    TooShort,
+    TooShort(Buffer, usize),
     FrameIn(Buffer, usize),
     Refused(Refusal),
 }

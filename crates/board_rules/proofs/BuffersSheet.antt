@@ -1,7 +1,8 @@
 -- W2, two frame buffers in turn (document 02), sentence by sentence and reading by reading: calls in a row, worked out from the request by hand, proved of the rules by computation under
 -- one statement, `buffers-sheet`. Each row says which words it is for.
 --   in-turn       the first frame to A, the switch, place 0, which frame is handed back
---   not-complete  overrun, disabling, re-arming, ERR, a padded word that is lost
+--   not-complete  overrun and disabling, in the frame and after it; re-arming; a padded word that is lost
+--   by-codes      frames by codes (W6): a frame end, ERR, re-arming between FF 00 00 and XY
 --   the-modes     setting the mode
 --   mode-refusals 16, 9, 7 and their order
 --   board-judged  the boards that "malformed" judges
@@ -22,7 +23,7 @@ use Rattle.refusals.specs.Refusals as refusals
 use Rattle.rules.specs.Run.{Packed, nothing, lost}
 use Rattle.rules.proofs.EveryRule.{every-rule}
 use Rattle.rules.proofs.BenchSheet.{CR, RIS, CWSIZE, edges, blank, line-gap, idle, words-are, no-slots}
-use Rattle.rules.proofs.CodesSheet.{ESCR, ESUR, FS, LS}
+use Rattle.rules.proofs.CodesSheet.{ESCR, ESUR, FS, LS, FE}
 use Rattle.board_rules.specs.declared.Mode.the-variants.{One, Two}
 use Rattle.board_rules.specs.declared.Board.{Board}
 use Rattle.board_rules.specs.State.{bad-turns, malformed}
@@ -57,8 +58,8 @@ pub data Call : Type 0 where
   the-places : Call
   the-memories : Call
 
--- What it tells: accepted, with no value; a refusal number; a register's value; where a word landed and what became of a full one; no frame, one in memory too short, or its buffer and bytes;
--- the two places; the bytes.
+-- What it tells: accepted, with no value; a refusal number; a register's value; where a word landed and what became of a full one; no frame, a buffer whose memory is too short for so many
+-- bytes, or a buffer and its frame's bytes; the two places; the bytes.
 pub data Said : Type 0 where
   done : Said
   refused : ℕ → Said
@@ -66,7 +67,7 @@ pub data Said : Type 0 where
   at : ℕ → Packed → Said
   sampled : Option Landing → Packed → Said
   no-frame : Said
-  too-short : Said
+  too-short : Buffer → ℕ → Said
   frame : Buffer → List ℕ → Said
   places : ℕ → ℕ → Said
   hold : List ℕ → List ℕ → Said
@@ -107,7 +108,7 @@ changes l c = record { said = by-number (c .number); board = c .board; memories 
 
 abbrev pub hands : List ℕ → handing.Handed → Said
 hands bytes handing.nothing = no-frame
-hands bytes handing.too-short = too-short
+hands bytes (handing.too-short u n) = too-short u n
 hands bytes (handing.frame-in u n) = frame u bytes
 
 abbrev pub handing-told : Board → Both → Both → Told
@@ -241,9 +242,25 @@ in-turn =
     lands A 0 ∷
     lands B 4 ∷
     lands B 8 ∷
-    handed-of (lending 12 0 11 4) ▸ too-short ∷
+    handed-of (lending 12 0 11 4) ▸ too-short B 8 ∷
     handed-of (lending 0 0 12 4) ▸ frame B (replicate 8 0xBB) ∷
     handed ▸ frame B (pixels 3 4 ++ pixels 5 6) ∷
+    []) ∷
+    -- in A too; it says which, and how many bytes the frame has, whatever is there or missing
+    two 4 usual
+    (feed (blank ∷ 1 ∷ 2 ∷ blank ∷ 3 ∷ 4 ∷ []) ∷
+    lands A 0 ∷
+    handed-of (lending 3 0 12 4) ▸ too-short A 4 ∷
+    handed-of (lending 7 4 12 4) ▸ too-short A 4 ∷
+    handed-of (lending 4 0 0 0) ▸ frame A (replicate 4 0xAA) ∷
+    []) ∷
+    -- "All its words have landed": the last lands in the sample of the frame's end, by rule 1 before rule 4
+    two 4 usual
+    (feed (blank ∷ 1 ∷ 2 ∷ []) ∷
+    a-run (blank ∷ []) ▸ done ∷
+    handed ▸ no-frame ∷
+    a-sample 0x3C000 ▸ sampled (some (record { buffer = A; byte = 0 })) nothing ∷
+    handed ▸ frame A (pixels 1 2) ∷
     []) ∷
     -- handing back is accepted enabled, in a frame and disabled; disabling ends no completeness
     two 4 usual
@@ -271,6 +288,56 @@ in-turn =
 -- A board for JPEG, and for codes as CodesSheet has them.
 abbrev pub two-with : ℕ → ℕ → List Entry → Log
 two-with depth cr entries = log (fresh-of depth) usual (two-buffers ▸ done ∷ a-write CR cr ▸ done ∷ entries)
+
+abbrev pub two-coded : ℕ → List Entry → Log
+two-coded depth entries =
+    log (fresh-of depth) usual
+    (two-buffers ▸ done ∷ a-write ESCR 0xD4C3B2A1 ▸ done ∷ a-write ESUR 0xFFFFFFFF ▸ done ∷ a-write CR 0x4031 ▸ done ∷ entries)
+
+unfoldable pub by-codes : List Log
+by-codes =
+    -- W6: a frame end code ends a frame as rule 4 does; the next frame's word switches
+    two-coded 4
+    (feed (FS ++ 1 ∷ 2 ∷ 3 ∷ 4 ∷ []) ∷
+    lands A 0 ∷
+    handed ▸ no-frame ∷
+    feed FE ∷
+    handed ▸ frame A (1 ∷ 2 ∷ 3 ∷ 4 ∷ []) ∷
+    feed (FS ++ 5 ∷ 6 ∷ 7 ∷ 8 ∷ FE) ∷
+    lands B 4 ∷
+    handed ▸ frame B (5 ∷ 6 ∷ 7 ∷ 8 ∷ []) ∷
+    []) ∷
+    -- ERR, of a frame whose only word has landed
+    two-coded 4
+    (feed (FS ++ 1 ∷ 2 ∷ 3 ∷ 4 ∷ []) ∷
+    lands A 0 ∷
+    feed LS ∷
+    a-read RIS ▸ reads 4 ∷
+    handed ▸ no-frame ∷
+    feed (FS ++ 5 ∷ 6 ∷ 7 ∷ 8 ∷ []) ∷
+    lands B 4 ∷
+    []) ∷
+    -- ERR between frames: the ended one's second word is discarded, and it is not complete
+    two-coded 4
+    (feed (FS ++ 1 ∷ 2 ∷ 3 ∷ 4 ∷ 5 ∷ 6 ∷ 7 ∷ 8 ∷ FE) ∷
+    lands A 0 ∷
+    feed LS ∷
+    a-read RIS ▸ reads 0x1D ∷
+    granting none ∷
+    handed ▸ no-frame ∷
+    []) ∷
+    -- re-arming between FF 00 00 and XY: the bytes wait on, and XY makes the code
+    two-coded 4
+    (feed (0xFF ∷ 0 ∷ 0 ∷ []) ∷
+    a-rearming ▸ done ∷
+    feed (0xA1 ∷ 1 ∷ 2 ∷ 3 ∷ 4 ∷ 0xFF ∷ 0 ∷ 0 ∷ []) ∷
+    a-rearming ▸ done ∷
+    lands A 0 ∷
+    handed ▸ no-frame ∷
+    feed (0xD4 ∷ []) ∷
+    handed ▸ frame A (1 ∷ 2 ∷ 3 ∷ 4 ∷ []) ∷
+    []) ∷
+    []
 
 unfoldable pub not-complete : List Log
 not-complete =
@@ -338,20 +405,36 @@ not-complete =
     lands A 4 ∷
     handed ▸ frame A (1 ∷ 2 ∷ 3 ∷ 4 ∷ 5 ∷ 0 ∷ 0 ∷ 0 ∷ []) ∷
     []) ∷
-    -- W6: ERR, of a frame whose only word has landed
-    log (fresh-of 4) usual
-    (two-buffers ▸ done ∷
-    a-write ESCR 0xD4C3B2A1 ▸ done ∷
-    a-write ESUR 0xFFFFFFFF ▸ done ∷
-    a-write CR 0x4031 ▸ done ∷
-    feed (FS ++ 1 ∷ 2 ∷ 3 ∷ 4 ∷ []) ∷
+    -- a frame that has ended loses a held word to the next one's overrun
+    two 2 usual
+    (feed (blank ∷ 1 ∷ 2 ∷ 3 ∷ 4 ∷ blank ∷ []) ∷
     lands A 0 ∷
-    feed (LS ++ []) ∷
-    a-read RIS ▸ reads 4 ∷
+    feed (5 ∷ 6 ∷ 7 ∷ 8 ∷ blank ∷ []) ∷
+    a-read RIS ▸ reads 0x1B ∷
+    granting none ∷
     handed ▸ no-frame ∷
-    feed (FS ++ 5 ∷ 6 ∷ 7 ∷ 8 ∷ []) ∷
+    []) ∷
+    -- or to disabling; the next frame is handed back
+    two 4 usual
+    (feed (blank ∷ 1 ∷ 2 ∷ 3 ∷ 4 ∷ blank ∷ []) ∷
+    lands A 0 ∷
+    a-write CR 0x08E0 ▸ done ∷
+    handed ▸ no-frame ∷
+    a-write CR 0x48E1 ▸ done ∷
+    feed (blank ∷ 5 ∷ 6 ∷ blank ∷ []) ∷
+    handed ▸ no-frame ∷
+    lands B 4 ∷
+    handed ▸ frame B (pixels 5 6) ∷
+    []) ∷
+    -- "The first word a frame completes switches": also if it was held and then discarded, by disabling or by an overrun
+    two 4 usual
+    (feed (blank ∷ 1 ∷ 2 ∷ []) ∷
+    a-write CR 0x08E0 ▸ done ∷
+    a-write CR 0x48E1 ▸ done ∷
+    feed (blank ∷ 3 ∷ 4 ∷ []) ∷
     lands B 4 ∷
     []) ∷
+    two 1 usual (feed (blank ∷ 1 ∷ 2 ∷ 3 ∷ 4 ∷ blank ∷ 5 ∷ 6 ∷ []) ∷ lands B 4 ∷ []) ∷
     []
 
 unfoldable pub the-modes : List Log
@@ -474,8 +557,9 @@ board-judged =
 
 pub buffers-sheet : (map played in-turn ≡ map (λ l. map (λ e. e .said) (l .entries)) in-turn)
     × (map played not-complete ≡ map (λ l. map (λ e. e .said) (l .entries)) not-complete)
+    × (map played by-codes ≡ map (λ l. map (λ e. e .said) (l .entries)) by-codes)
     × (map played the-modes ≡ map (λ l. map (λ e. e .said) (l .entries)) the-modes)
     × (map played mode-refusals ≡ map (λ l. map (λ e. e .said) (l .entries)) mode-refusals)
     × (map (λ j. malformed (record { device = fresh-of 4 .device; mode = Two (j .turns) })) board-judged ≡ map (λ j. j .malformed) board-judged)
-unfolding told told-by played in-turn not-complete the-modes mode-refusals board-judged every-board-rule
-buffers-sheet = (refl, refl, refl, refl, refl)
+unfolding told told-by played in-turn not-complete by-codes the-modes mode-refusals board-judged every-board-rule
+buffers-sheet = (refl, refl, refl, refl, refl, refl)

@@ -16,10 +16,10 @@ use Rattle.board_rules.specs.declared.Board.{Board}
 use Rattle.board_rules.specs.State.{is-two, kept, malformed}
 use Rattle.board_rules.specs.BoardRuns.{Lent, Both, lent, frame-buffer, turns-of}
 
--- No frame is complete; its memory is too short; or the frame is in a buffer, with so many bytes: four for each of its words, from that memory's start on.
+-- No frame is complete; or the latest is in a buffer, with so many bytes, four for each of its words, from that memory's start on; or that buffer's memory is too short for so many.
 pub data Handed : Type 0 where
   nothing : Handed
-  too-short : Handed
+  too-short : Buffer → ℕ → Handed
   frame-in : Buffer → ℕ → Handed
 
 -- Of the memories only their lengths and starts count.
@@ -50,7 +50,7 @@ handing-refusal b s = first (malformed b ⇒ 1 ∷ not (is-two (b .mode)) ⇒ 16
 
 -- The latest complete frame, if there is one: its words are as many as its buffer's next place says.
 unfoldable pub handed-from : Buffer → ℕ → Span → Handed
-handed-from u bytes s = cond (ltb (s .length - s .start) bytes) too-short (frame-in u bytes)
+handed-from u bytes s = cond (ltb (s .length - s .start) bytes) (too-short u bytes) (frame-in u bytes)
 
 unfoldable pub handed-latest : Option Buffer → Device → Turns → Spans → Handed
 handed-latest none d t s = nothing
@@ -67,5 +67,5 @@ hand-back b l = latest-frame b (spans l)
 unfoldable pub handed-part : Answer Handed → Both → List ℕ
 handed-part (refused number) l = []
 handed-part (answered nothing) l = []
-handed-part (answered too-short) l = []
+handed-part (answered (too-short u bytes)) l = []
 handed-part (answered (frame-in u bytes)) l = take bytes (frame-buffer (lent u l))

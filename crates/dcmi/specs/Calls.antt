@@ -209,7 +209,11 @@ unfoldable pub sample-two : List ℕ → board-runs.Both → ℕ → List ℕ �
 sample-two image l w old =
     cond (encodes image) (sampled-two image old (board-runs.sample-two (board-of image) l w)) (record { stored = sample-called 1 image old; memories = board-runs.memories l })
 
--- W2: where the latest complete frame is, as three words: kind, offset, length.
+-- W2: where the latest complete frame is, as three words: kind, offset, length. Where a memory is too short, offset + length is what it must have.
+abbrev pub short-word : Buffer → ℕ
+short-word A = 3
+short-word B = 4
+
 pub record FrameCalled : Type 0 where
   pub number : ℕ
   pub frame : List ℕ
@@ -223,7 +227,7 @@ start-of u s = handing-rules.span-of u s .start
 abbrev pub frame-words : List ℕ → handing-rules.Spans → Answer handing-rules.Handed → FrameCalled
 frame-words old s (refused n) = record { number = n; frame = old }
 frame-words old s (answered handing-rules.nothing) = record { number = 0; frame = 0 ∷ 0 ∷ 0 ∷ [] }
-frame-words old s (answered handing-rules.too-short) = record { number = 0; frame = 3 ∷ 0 ∷ 0 ∷ [] }
+frame-words old s (answered (handing-rules.too-short u bytes)) = record { number = 0; frame = short-word u ∷ start-of u s ∷ bytes ∷ [] }
 frame-words old s (answered (handing-rules.frame-in u bytes)) = record { number = 0; frame = in-word u ∷ start-of u s ∷ bytes ∷ [] }
 
 unfoldable pub latest-frame : List ℕ → handing-rules.Spans → List ℕ → FrameCalled

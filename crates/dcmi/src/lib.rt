@@ -456,6 +456,15 @@ fn start_of(u: Buffer, start_a: usize, start_b: usize) -> u64
     }
 }
 
+fn short_word(u: Buffer) -> u64
+    ensures { λ r. ⌜ r ≡ call-rules.short-word u ⌝ }
+{
+    match u {
+        Buffer::A => 3,
+        Buffer::B => 4,
+    }
+}
+
 fn put_frame(handed: Handed, start_a: usize, start_b: usize, frame: &mut [u64; 3]) -> u32
     ensures { λ r. ⌜ ((la lb : ℕ) → call-rules.frame-called r (now (frame .exit)) ≡ call-rules.frame-words (now (frame .entry)) (call-answers.spans la «start_a» lb «start_b») (call-answers.handed handed)) ⌝ }
 {
@@ -464,8 +473,11 @@ fn put_frame(handed: Handed, start_a: usize, start_b: usize, frame: &mut [u64; 3
             *frame = [0, 0, 0];
             return 0;
         }
-        Handed::TooShort => {
-            *frame = [3, 0, 0];
+        Handed::TooShort(u, bytes) => {
+            let kind = short_word(u);
+            let offset = start_of(u, start_a, start_b);
+            let length = bytes as u64;
+            *frame = [kind, offset, length];
             return 0;
         }
         Handed::FrameIn(u, bytes) => {

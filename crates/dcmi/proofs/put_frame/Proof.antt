@@ -18,13 +18,13 @@ returns : tie.Need-returns
 returns c = λ la lb. rw (c .before .enum-told .given .1)
 
 returns-2 : tie.Need-returns-2
-returns-2 c = λ la lb. rw (c .before .enum-told2 .given .1)
+returns-2 c = λ la lb. rw (c .before .start-of .ensures, c .before .before .short-word .ensures, c .before .before .before .before .handed .given .1, same-start _ la _ lb _)
 
 returns-3 : tie.Need-returns-3
-returns-3 c = λ la lb. rw (c .before .start-of .ensures, c .before .before .in-word .ensures, c .before .before .before .before .handed .given .1, same-start _ la _ lb _)
+returns-3 c = λ la lb. rw (c .before .start-of2 .ensures, c .before .before .in-word .ensures, c .before .before .before .before .handed2 .given .1, same-start _ la _ lb _)
 
 returns-4 : tie.Need-returns-4
-returns-4 c = λ la lb. rw (c .number .ensures, c .before .before .handed2 .given .1)
+returns-4 c = λ la lb. rw (c .number .ensures, c .before .before .handed3 .given .1)
 
 pub put-frame-spec : {M : Type 1} → statement M
 put-frame-spec =
@@ -33,6 +33,8 @@ put-frame-spec =
     (λ c. search needs)
     returns
     (λ c. search needs)
+    (λ c κs. search needs)
+    (λ c κs. search needs)
     returns-2
     (λ c. search needs)
     (λ c κs. search needs)
