@@ -22,7 +22,6 @@ pub use handing_back::hand_back;
 pub use handing_back::latest_frame;
 pub use one_memory::run;
 pub use one_memory::sample;
-pub use one_memory::unmatched;
 use output::Output;
 use refusals::Outcome;
 use refusals::Refusal;

@@ -373,8 +373,10 @@ pub extern "C" fn dcmi_sample_slices(
 fn unmatched_number(b: Board) -> u32
     ensures { λ r. ⌜ r ≡ cond (board-state.malformed b) 1 16 ⌝ }
 {
-    let refusal = board::unmatched(b);
-    refusal.number()
+    if board::malformed(b) {
+        return 1;
+    }
+    16
 }
 
 fn in_word(u: Buffer) -> u64

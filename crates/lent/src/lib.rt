@@ -1,36 +1,11 @@
-// The calls that change a board (W2), over a board that is lent: a register write, a run and one sample over one memory, and one sample over two. Each says its answer, the
-// board and the memories afterwards as one equation with a definition of the crate `board_rules`; refused, they are as they were.
+// One sample over a board that is lent, with one memory, and with two (W2): thin calls over those by value. Each says its answer, the board and the memories afterwards as one
+// equation with a definition of the crate `board_rules`; refused, they are as they were.
 ghost use mathlib.Core.Path.{_≡_};
-ghost use Rattle.board_rules.specs.BoardCalls as board-calls;
 ghost use Rattle.board_rules.specs.BoardRuns as board-runs;
 ghost use Rattle.board.specs.Answers as call-answers;
 use board::TwoReply;
 use board_rules::Board;
 use device::Reply;
-use refusals::Outcome;
-
-// A register write.
-pub fn write<'b>(b: &'b mut Board, offset: u32, value: u32) -> Outcome
-    ensures { λ r. ⌜ call-answers.changed (record { board = now (b .exit); outcome = r }) ≡ board-calls.write (now (b .entry)) offset value ⌝ }
-{
-    let after = board::write(*b, offset, value);
-    *b = after.board;
-    after.outcome
-}
-
-// A run of samples.
-pub fn run<'b, 'm, 's>(
-    b: &'b mut Board,
-    memory: &'m mut [u8],
-    start: usize,
-    samples: &'s [u32],
-) -> Outcome
-    ensures { λ r. ⌜ call-answers.ran (record { board = now (b .exit); outcome = r }) (now (memory .exit)) ≡ board-runs.run (now (b .entry)) (now (memory .entry)) start (now (samples .entry)) ⌝ }
-{
-    let after = board::run(*b, memory, start, samples);
-    *b = after.board;
-    after.outcome
-}
 
 // One sample.
 pub fn sample<'b, 'm>(b: &'b mut Board, memory: &'m mut [u8], start: usize, w: u32) -> Reply
