@@ -93,7 +93,7 @@ pub fn fresh() -> Board
     in_one(device::fresh())
 }
 
-// A board made with a depth of 1 to 32. Refusal 18; refused, it is one of the usual depth.
+// A board made with a depth of 1 to 32. Refusal 18; refused, it is malformed, and every call refuses it 1.
 pub fn made(depth: u32) -> Changed
     ensures { λ r. ⌜ call-answers.changed r ≡ board-calls.made depth ⌝ }
 {

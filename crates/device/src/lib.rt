@@ -119,13 +119,20 @@ pub fn fresh() -> Device
     fresh_of(USUAL_DEPTH)
 }
 
-// A device made with a depth of 1 to 32. Refusal 18; refused, the device is one of the usual depth.
+// What stands for a device where a call that gives one is refused: it is malformed, and every call refuses it 1.
+pub fn no_device() -> Device
+    ensures { λ r. ⌜ r ≡ register-rules.no-device ⌝ }
+{
+    fresh_of(0)
+}
+
+// A device made with a depth of 1 to 32. Refusal 18, and no device.
 pub fn made(depth: u32) -> Changed
     ensures { λ r. ⌜ device-answers.changed r ≡ register-rules.made depth ⌝ }
 {
     if bad_depth(depth) {
         return Changed {
-            device: fresh(),
+            device: no_device(),
             outcome: Outcome::Refused(Refusal::Depth),
         };
     }

@@ -13,14 +13,14 @@ use Rattle.samples.specs.Samples.{bad-sample, any-bad}
 use Rattle.rules.specs.declared.Device.{Device}
 use Rattle.rules.specs.State.{fresh}
 use Rattle.rules.specs.Answers.{Changed}
-use Rattle.rules.specs.RegisterCalls.{made}
+use Rattle.rules.specs.RegisterCalls.{no-device, made}
 use Rattle.rules.specs.WellFormed.{malformed}
 use Rattle.rules.specs.Run.{RunResult, run, run-refusal, steps}
 use Rattle.trace_format.specs.Format.{header-length, sample-size}
 use Rattle.trace_format.specs.Reading.{version-of, sample-count, sample-start, whole, header-refusal, form-of, form-refusal, writes-of, samples-from, samples-of}
 use Rattle.trace_format.proofs.Rewritten.{length-samples-from}
 use Rattle.file_rules.specs.File.{set-up, run-content, run-on, run-file, run-file-of}
-use Rattle.file_rules.specs.WholeOrder.{or-fresh, whole-order}
+use Rattle.file_rules.specs.WholeOrder.{or-refused, whole-order}
 use Rattle.file_rules.proofs.SettingUp.{made-ready, fresh-ready}
 use Rattle.file_rules.proofs.WholeOrder.{after-writes, count-fits, with-whole-order}
 use Rattle.trace_format.proofs.Form.{form-after-header}
@@ -48,11 +48,11 @@ abbrev told : RunResult → Changed
 told r = record { number = r .number; device = r .device }
 
 -- The end, from what the form checks say.
-end-form : (s : State) (m : List ℕ) (start x : ℕ) → form-of (s .head) (s .taken) ≡ x → eqb x 0 ≡ false → ended s m start ≡ record { number = x; device = fresh }
+end-form : (s : State) (m : List ℕ) (start x : ℕ) → form-of (s .head) (s .taken) ≡ x → eqb x 0 ≡ false → ended s m start ≡ record { number = x; device = no-device }
 unfolding ended end-refusal
 end-form s m start x e some = rw (e, some, some)
 
-end-number : (s : State) (m : List ℕ) (start x : ℕ) → form-of (s .head) (s .taken) ≡ 0 → s .number ≡ x → eqb x 0 ≡ false → ended s m start ≡ record { number = x; device = fresh }
+end-number : (s : State) (m : List ℕ) (start x : ℕ) → form-of (s .head) (s .taken) ≡ 0 → s .number ≡ x → eqb x 0 ≡ false → ended s m start ≡ record { number = x; device = no-device }
 unfolding ended end-refusal
 end-number s m start x e n some = rw (e, n, some, some)
 
@@ -63,20 +63,20 @@ end-fine s m start e n within = rw (e, n, le-ltb _ _ within)
 
 -- With no sample the end finds what a run of none does.
 end-none : (s : State) (d : Device) (m : List ℕ) (start : ℕ) → form-of (s .head) (s .taken) ≡ 0 → s .number ≡ 0 → s .device ≡ d → malformed d ≡ false → d .core .output .counts .samples + 0 ≤ 4294967295
-    → let r = or-fresh (run d m start []) in ended s m start ≡ record { number = r .number; device = r .device }
+    → let r = or-refused (run d m start []) in ended s m start ≡ record { number = r .number; device = r .device }
 unfolding ended end-refusal run run-refusal any-bad steps
 end-none s d m start e n is well fits = rw (e, n, is, well, le-ltb _ _ fits) (go (ltb (length m) start))
   where
     go : (b : Bool)
         → let n : ℕ = cond b 9 0 in
-        let r = or-fresh (record { number = n; device = cond (eqb n 0) d d; memory = cond (eqb n 0) (take start m ++ drop start m) m }) in _≡_ {A = Changed} (record { number = n; device = cond (eqb n 0) d fresh }) (record { number = r .number; device = r .device })
+        let r = or-refused (record { number = n; device = cond (eqb n 0) d d; memory = cond (eqb n 0) (take start m ++ drop start m) m }) in _≡_ {A = Changed} (record { number = n; device = cond (eqb n 0) d no-device }) (record { number = r .number; device = r .device })
     go true = refl
     go false = refl
 
 -- Samples as runs of one, and the end: what a run of all of them does.
 end-run : (s : State) (start : ℕ) (d : Device) (m ws : List ℕ) → form-of (s .head) (s .taken) ≡ 0 → s .number ≡ singles start d m ws .number → s .device ≡ singles start d m ws .device
     → malformed d ≡ false → d .core .output .counts .samples + length ws ≤ 4294967295
-    → let r = or-fresh (run d m start ws) in ended s (singles start d m ws .memory) start ≡ record { number = r .number; device = r .device }
+    → let r = or-refused (run d m start ws) in ended s (singles start d m ws .memory) start ≡ record { number = r .number; device = r .device }
 unfolding singles
 end-run s start d m [] e n is well fits = end-none s d m start e n is well fits
 end-run s start d m (w ∷ ws) e n is well fits =
@@ -169,7 +169,7 @@ module _ (start : ℕ) (d : Device) (m f : List ℕ) (bytes : (i : ℕ) → getD
             let exact : length f ≡ whole f = is-whole fine in
             let every : n ≡ sample-count f = omega arith in
             let ends = end-run (all .state) start (ready .device) m (samples-from f 0 n) (g .form ∙ eqb-true (form-refusal f) 0 fine) (g .number) (g .device) (after-writes f bytes d well none .well) (fits n (omega arith)) in
-            record { answer = rw (with-whole-order f bytes d well none (eqb-true _ 0 fine) m start, g .memory, taken) (ends ∙ ap (λ (x : ℕ). told (or-fresh (run (ready .device) m start (samples-from f 0 x)))) every); memory = left })
+            record { answer = rw (with-whole-order f bytes d well none (eqb-true _ 0 fine) m start, g .memory, taken) (ends ∙ ap (λ (x : ℕ). told (or-refused (run (ready .device) m start (samples-from f 0 x)))) every); memory = left })
             (λ refused. form-refused all (g .form) refused left)
 
   -- Every length and content.

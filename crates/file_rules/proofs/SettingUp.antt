@@ -15,7 +15,7 @@ use Rattle.rules.specs.State.{fresh-of, fresh}
 use Rattle.rules.specs.Answers.{Changed}
 use Rattle.output.specs.Output.{usual-depth, OutputState, fresh-output, with-held, holding, with-counts, count-discarded, discard}
 use Rattle.output.specs.WellFormed.{bad-depth}
-use Rattle.rules.specs.RegisterCalls.{disables, write-refusal, write-at, write, made}
+use Rattle.rules.specs.RegisterCalls.{disables, write-refusal, write-at, no-device, write, made}
 use Rattle.rules.specs.WellFormed.{malformed}
 use Rattle.bits.proofs.Booleans.{either}
 use Rattle.laws.proofs.Keeps.{fresh-well-formed}
@@ -51,7 +51,7 @@ unfolding made fresh-of fresh-output holding with-held
 made-ready depth = go (bad-depth depth) refl
   where
     go : (bad : Bool) → bad-depth depth ≡ bad → eqb (cond bad 18 0) 0 ≡ true
-        → let d = cond (eqb (cond bad 18 0) 0) (fresh-of depth) fresh in (malformed d ≡ false) × (d .core .output .counts .samples ≡ 0)
+        → let d = cond (eqb (cond bad 18 0) 0) (fresh-of depth) no-device in (malformed d ≡ false) × (d .core .output .counts .samples ≡ 0)
     go true e h = absurd (false≢true h)
     go false e h = (fresh-well-formed depth e, refl)
 

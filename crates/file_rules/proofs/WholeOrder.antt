@@ -22,20 +22,20 @@ use Rattle.trace_format.specs.Reading.{form-refusal, version-of, write-count, s
 use Rattle.trace_format.proofs.Fields.{field-below, count-below}
 use Rattle.trace_format.proofs.Rewritten.{length-samples-of}
 use Rattle.file_rules.specs.File.{set-up, refused, samples-refusal, run-samples, run-content, run-on, run-file, run-file-of}
-use Rattle.file_rules.specs.WholeOrder.{or-fresh, whole-order}
+use Rattle.file_rules.specs.WholeOrder.{or-refused, whole-order}
 use Rattle.file_rules.proofs.Neither.{Neither, write-neither, run-neither, form-neither}
 use Rattle.file_rules.proofs.SettingUp.{write-samples, made-ready, fresh-ready}
 
 -- A run on such a device, of samples that fit: the tests for 1 and 8 find nothing.
 pub same-run : (d : Device) (m : List ℕ) (start : ℕ) (ws : List ℕ) → malformed d ≡ false → d .core .output .counts .samples + length ws ≤ 4294967295
-    → run-samples d m start ws ≡ or-fresh (run d m start ws)
+    → run-samples d m start ws ≡ or-refused (run d m start ws)
 unfolding run-samples samples-refusal run run-refusal
 same-run d m start ws well fits = rw (well, le-ltb _ _ fits) (go (ltb (length m) start) (any-bad ws) (steps d (drop start m) ws))
   where
     go : (a b : Bool) (r : Ran)
         → let n : ℕ = cond a 9 (cond b 7 0) in
         cond (eqb n 0) (record { number = 0; device = r .device; memory = take start m ++ r .buffer }) (refused n m)
-        ≡ or-fresh (record { number = n; device = cond (eqb n 0) (r .device) d; memory = cond (eqb n 0) (take start m ++ r .buffer) m })
+        ≡ or-refused (record { number = n; device = cond (eqb n 0) (r .device) d; memory = cond (eqb n 0) (take start m ++ r .buffer) m })
     go true b r = refl
     go false true r = refl
     go false false r = refl

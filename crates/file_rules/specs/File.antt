@@ -9,7 +9,7 @@ use Rattle.samples.specs.Samples.{any-bad}
 use Rattle.rules.specs.declared.Device.{Device}
 use Rattle.rules.specs.State.{fresh}
 use Rattle.rules.specs.Answers.{Changed}
-use Rattle.rules.specs.RegisterCalls.{write, made}
+use Rattle.rules.specs.RegisterCalls.{no-device, write, made}
 use Rattle.rules.specs.Run.{RunResult, steps}
 use Rattle.trace_format.specs.declared.Write.{Write}
 use Rattle.trace_format.specs.Reading.{form-refusal, writes-of, samples-of}
@@ -19,9 +19,9 @@ unfoldable pub set-up : Device → List Write → Changed
 set-up d [] = record { number = 0; device = d }
 set-up d (w ∷ ws) = cond (eqb (write d (w .offset) (w .value) .number) 0) (set-up (write d (w .offset) (w .value) .device) ws) (write d (w .offset) (w .value))
 
--- What a refused file leaves: a fresh device, and the memory as it was.
+-- What a refused file leaves: no device, and the memory as it was.
 abbrev pub refused : ℕ → List ℕ → RunResult
-refused number memory = record { number = number; device = fresh; memory = memory }
+refused number memory = record { number = number; device = no-device; memory = memory }
 
 -- The samples of a file as one run, on the device that its writes left: refusals 9, 7. Any other run has 1 and 8 as well, which no file can give (W8):
 -- `proofs/WholeOrder.antt` shows that a file is run alike with them.

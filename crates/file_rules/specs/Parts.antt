@@ -7,9 +7,8 @@ use lib.Dec.{eqb, ltb, leb}
 use lib.ListN.{length, set, replicate}
 use Rattle.refusals.specs.Refusals.{_⇒_, first}
 use Rattle.rules.specs.declared.Device.{Device}
-use Rattle.rules.specs.State.{fresh}
 use Rattle.rules.specs.Answers.{Changed}
-use Rattle.rules.specs.RegisterCalls.{write}
+use Rattle.rules.specs.RegisterCalls.{no-device, write}
 use Rattle.rules.specs.Run.{RunResult, run}
 use Rattle.samples.specs.Samples.{bad-sample}
 use Rattle.trace_format.specs.Format.{header-length, write-size, sample-size}
@@ -107,7 +106,7 @@ joined [] = []
 joined (p ∷ ps) = p ++ joined ps
 
 -- The end of the file, in the order of the whole file's run: the form checks 13, 10, 11, 13, 12, 13, the number that is remembered; then, for a file without samples, 9.
--- Refused, the device is a fresh one.
+-- Refused, there is no device.
 unfoldable pub end-refusal : State → List ℕ → ℕ → ℕ
 end-refusal s memory start =
     let form = form-of (s .head) (s .taken) in
@@ -120,7 +119,7 @@ end-refusal s memory start =
 unfoldable pub ended : State → List ℕ → ℕ → Changed
 ended s memory start =
     let number = end-refusal s memory start in
-    record { number = number; device = cond (eqb number 0) (s .device) fresh }
+    record { number = number; device = cond (eqb number 0) (s .device) no-device }
 
 -- A file by parts: its number, the device and the memory that the parts leave.
 unfoldable pub run-parts : Device → List (List ℕ) → List ℕ → ℕ → RunResult

@@ -10,10 +10,10 @@ use Rattle.trace_format.specs.Reading.{writes-of, samples-of}
 use Rattle.file_rules.specs.File.{set-up, refused}
 
 -- A refused run leaves what a refused file does.
-abbrev pub or-fresh : RunResult → RunResult
-or-fresh r = cond (eqb (r .number) 0) r (refused (r .number) (r .memory))
+abbrev pub or-refused : RunResult → RunResult
+or-refused r = cond (eqb (r .number) 0) r (refused (r .number) (r .memory))
 
 unfoldable pub whole-order : Device → List ℕ → List ℕ → ℕ → RunResult
 whole-order d file memory start =
     let ready = set-up d (writes-of file) in
-    cond (eqb (ready .number) 0) (or-fresh (run (ready .device) memory start (samples-of file))) (refused (ready .number) memory)
+    cond (eqb (ready .number) 0) (or-refused (run (ready .device) memory start (samples-of file))) (refused (ready .number) memory)

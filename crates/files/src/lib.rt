@@ -36,12 +36,12 @@ fn write_item(d: Device, w: Write) -> Changed
     device::write(d, w.offset as u32, w.value)
 }
 
-// A refused file: the device is a fresh one.
+// A refused file: no device.
 fn refused(refusal: Refusal) -> Changed
     ensures { λ r. ⌜ ((memory : List ℕ) → device-answers.ran r memory ≡ file-rules.refused (number refusal) memory) ⌝ }
 {
     Changed {
-        device: device::fresh(),
+        device: device::no_device(),
         outcome: Outcome::Refused(refusal),
     }
 }
@@ -104,7 +104,7 @@ fn steps(d: Device, buffer: &mut [u8], file: &[u8]) -> Device
     e
 }
 
-// The samples of a file as one run on a device that has counted none: refusals 9 and 7. Refused, the device is a fresh one.
+// The samples of a file as one run on a device that has counted none: refusals 9 and 7. Refused, there is no device.
 fn run_samples(d: Device, file: &[u8], memory: &mut [u8], start: usize) -> Changed
     requires { ⌜ malformed d ≡ false ⌝ }
     requires { ⌜ d .core .output .counts .samples ≡ 0 ⌝ }
@@ -152,8 +152,8 @@ fn run_on(fresh: Device, file: &[u8], memory: &mut [u8], start: usize) -> Change
     refused(refusal)
 }
 
-// A trace file on a fresh device, over the memory from the start byte on. Refusals 13, 10, 11, 13, 12, 13, the first refused write's number, 9, 7; refused, the
-// device is a fresh one.
+// A trace file on a fresh device, over the memory from the start byte on. Refusals 13, 10, 11, 13, 12, 13, the first refused write's number, 9, 7; refused,
+// there is no device.
 pub fn run_file(file: &[u8], memory: &mut [u8], start: usize) -> Changed
     ensures { λ r. ⌜ device-answers.ran r (now (memory .exit)) ≡ file-rules.run-file (now (file .entry)) (now (memory .entry)) start ⌝ }
 {

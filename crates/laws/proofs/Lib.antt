@@ -23,6 +23,7 @@ pub mod FrameFlag
 pub mod Unpadded
 pub mod Before
 pub mod Depth
+pub mod NoDevice
 pub mod Padding
 pub mod Pace
 pub mod DataBytes

@@ -6,7 +6,7 @@ ghost use Prim.Native.Nat.{ℕ, _+_, _*_, _≤_, _<_, _^_, min};
 ghost use lib.Dec.{eqb};
 ghost use lib.ListN.{length, take, drop, set};
 ghost use Rattle.refusals.specs.Table.{outcome as number};
-ghost use Rattle.rules.specs.State as state-rules;
+ghost use Rattle.rules.specs.RegisterCalls as register-rules;
 ghost use Rattle.trace_format.specs.Format as format;
 ghost use Rattle.trace_format.specs.Reading as reading;
 ghost use Rattle.device.specs.Answers as device-answers;
@@ -390,12 +390,12 @@ pub fn take(parts: Parts, bytes: &[u8], memory: &mut [u8], start: usize) -> Part
     p
 }
 
-// A refused file: the device is a fresh one.
+// A refused file: no device.
 fn refused(outcome: Outcome) -> Changed
-    ensures { λ r. ⌜ (number (r .outcome) ≡ number outcome) × (r .device ≡ state-rules.fresh) ⌝ }
+    ensures { λ r. ⌜ (number (r .outcome) ≡ number outcome) × (r .device ≡ register-rules.no-device) ⌝ }
 {
     Changed {
-        device: device::fresh(),
+        device: device::no_device(),
         outcome,
     }
 }

@@ -469,7 +469,7 @@ pub request-sheet : (map played early-frame ≡ map (λ l. map (λ e. e .said) (
     })
     × (map played depths ≡ map (λ l. map (λ e. e .said) (l .entries)) depths)
     × (map (λ j. malformed (j .device)) depth-judged ≡ map (λ j. j .malformed) depth-judged)
-    × (map made-of (0 ∷ 1 ∷ 4 ∷ 32 ∷ 33 ∷ 260 ∷ []) ≡ (18 ∷ 4 ∷ []) ∷ (0 ∷ 1 ∷ []) ∷ (0 ∷ 4 ∷ []) ∷ (0 ∷ 32 ∷ []) ∷ (18 ∷ 4 ∷ []) ∷ (18 ∷ 4 ∷ []) ∷ [])
+    × (map made-of (0 ∷ 1 ∷ 4 ∷ 32 ∷ 33 ∷ 260 ∷ []) ≡ (18 ∷ 0 ∷ []) ∷ (0 ∷ 1 ∷ []) ∷ (0 ∷ 4 ∷ []) ∷ (0 ∷ 32 ∷ []) ∷ (18 ∷ 0 ∷ []) ∷ (18 ∷ 0 ∷ []) ∷ [])
     × (map played compressed ≡ map (λ l. map (λ e. e .said) (l .entries)) compressed)
     × (in-a-compressed-frame ≡ Open true (record { lines = 2; pixels = 1 }))
     × (at-a-padded-end ≡

@@ -21,7 +21,7 @@ use Rattle.rules.specs.declared.Capture.{Capture}
 use Rattle.rules.specs.declared.Device.{Device}
 use Rattle.output.specs.Output.{with-place, discard}
 use Rattle.output.specs.WellFormed.{bad-depth}
-use Rattle.rules.specs.State.{device, capture-of, output-of, fresh-of, fresh, is-open, not-blanking, close-frame, with-cr, with-ris, with-ier, with-cwstrt, with-cwsize, with-escr, with-esur, with-registers, with-syncs, with-frame, with-rate, with-waiting}
+use Rattle.rules.specs.State.{device, capture-of, output-of, fresh-of, is-open, not-blanking, close-frame, with-cr, with-ris, with-ier, with-cwstrt, with-cwsize, with-escr, with-esur, with-registers, with-syncs, with-frame, with-rate, with-waiting}
 use Rattle.rules.specs.Capture.{blanks}
 use Rattle.rules.specs.Codes.{coded-syncs}
 use Rattle.refusals.specs.Refusals.{Test, _⇒_, first, Answer, answer}
@@ -183,9 +183,13 @@ write-at d (At r) v =
 unfoldable pub write : Device → ℕ → ℕ → Changed
 write d offset v = change (write-refusal d offset v) d (write-at d (register-at offset) v)
 
--- Making a device of a depth (W9): refusal 18 for depth 0 or above 32, the first check; refused, the device is that of the usual depth.
+-- "A refusal returns its number and no value": what stands for no device. Its depth is 0, so that it is malformed, and every call refuses it 1.
+abbrev pub no-device : Device
+no-device = fresh-of 0
+
+-- Making a device of a depth (W9): refusal 18 for depth 0 or above 32, the first check.
 unfoldable pub made : ℕ → Changed
-made depth = change (first (bad-depth depth ⇒ 18 ∷ [])) fresh (fresh-of depth)
+made depth = change (first (bad-depth depth ⇒ 18 ∷ [])) no-device (fresh-of depth)
 
 -- The interrupt line is up exactly if MIS is not 0 (004, 32.4). Refusal 1.
 unfoldable pub interrupt : Device → Answer Bool

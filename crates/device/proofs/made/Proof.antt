@@ -6,7 +6,7 @@ use Rattle.device.proofs.made.Tie as tie
 
 returns : tie.Need-returns
 unfolding made
-returns c = rw (← c .before .before .bad-depth .ensures, c .before .if1 .taken, c .fresh .ensures)
+returns c = rw (← c .before .before .bad-depth .ensures, c .before .if1 .taken, c .no-device .ensures)
 
 returns-2 : tie.Need-returns-2
 unfolding made
