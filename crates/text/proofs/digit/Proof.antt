@@ -1,8 +1,8 @@
--- `frame_printer::digit` meets its contract. Assumes nothing.
+-- `text::digit` meets its contract.
 use borrow.Author.Needs.{needs}
 use borrow.Author.Tests.{lt-ltb, le-ltb}
-use Rattle.frame_printer.proofs.digit.Statement.{statement}
-use Rattle.frame_printer.proofs.digit.Tie as tie
+use Rattle.text.proofs.digit.Statement.{statement}
+use Rattle.text.proofs.digit.Tie as tie
 
 returns : tie.Need-returns
 returns c = rw (lt-ltb _ _ (c .if1 .taken))
