@@ -10,9 +10,10 @@ ghost use Rattle.printing.specs.Printed as printed-rules;
 use output::word_at;
 use refusals::Outcome;
 use rules::Device;
+use text::eight_digits;
 use text::put;
 use text::put_decimal;
-use text::put_hex;
+use text::two_digits;
 
 // A name and a number in decimal.
 fn count_line(name: &[u8], n: u32, buffer: &mut [u8]) -> usize
@@ -28,7 +29,8 @@ fn flags_line(ris: u32, buffer: &mut [u8]) -> usize
     ensures { λ r. ⌜ putting-rules.putting r (now (buffer .exit)) ≡ putting-rules.put (printed-rules.flags-line ris) 0 (now (buffer .entry)) ⌝ }
 {
     let named = put(b"flags ", buffer, 0);
-    let flagged = put_hex(2, ris as u64, buffer, named);
+    let digits = two_digits(ris as u64);
+    let flagged = put(&digits, buffer, named);
     put(b"\n", buffer, flagged)
 }
 
@@ -36,7 +38,8 @@ fn flags_line(ris: u32, buffer: &mut [u8]) -> usize
 fn word_line(word: u32, buffer: &mut [u8]) -> usize
     ensures { λ r. ⌜ putting-rules.putting r (now (buffer .exit)) ≡ putting-rules.put (printed-rules.word-line word) 0 (now (buffer .entry)) ⌝ }
 {
-    let place = put_hex(8, word as u64, buffer, 0);
+    let digits = eight_digits(word as u64);
+    let place = put(&digits, buffer, 0);
     put(b"\n", buffer, place)
 }
 

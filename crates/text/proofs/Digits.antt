@@ -1,4 +1,4 @@
--- Decimal: one digit below 10, else those of the tenth and then the last; how many digits there are; hexadecimal digits, the last one apart. Assumes nothing.
+-- Decimal: one digit below 10, else those of the tenth and then the last; how many digits there are. Assumes nothing.
 use mathlib.Core.Bool.{Bool, true, false, cond}
 use mathlib.Core.List.{List, [], _∷_, _++_}
 use mathlib.Core.Path.{_≡_, refl, sym, ap, _∙_}
@@ -48,16 +48,3 @@ pub hex-length : (n x : ℕ) → length (hex n x) ≡ n
 unfolding hex
 hex-length zero x = refl
 hex-length (suc n) x = rw (length-append, hex-length n (x / 16)) (omega arith)
-
--- The last of some hexadecimal digits.
-pub hex-none : (n x : ℕ) → n ≡ 0 → hex n x ≡ []
-unfolding hex
-hex-none zero x e = refl
-hex-none (suc n) x e = absurd (omega arith)
-
-pub hex-more : (n x : ℕ) → (n ≡ 0 → ⊥) → hex n x ≡ hex (n - 1) (x / 16) ++ (digit (x % 16) ∷ [])
-unfolding hex
-hex-more zero x some = absurd (some refl)
-hex-more (suc n) x some =
-    let less : suc n - 1 ≡ n = omega arith in
-    rw less

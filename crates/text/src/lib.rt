@@ -1,5 +1,5 @@
-// Text in a lent buffer, from a byte on: bytes as they are, and numbers in decimal and in hexadecimal. Each function puts what fits, answers the place behind it, and
-// leaves every other byte; it answers for every buffer, place and number.
+// Text: bytes, and numbers in decimal, in a lent buffer from a byte on; hexadecimal digits. What is put is as much as fits; the answer is the place behind it, and every other byte stays. Each function
+// answers for every buffer, place and number.
 ghost use mathlib.Core.List.{[], _∷_};
 ghost use mathlib.Core.Path.{_≡_};
 ghost use Prim.Native.Nat.{_<_};
@@ -52,13 +52,32 @@ pub fn put_decimal(x: u64, buffer: &mut [u8], at: usize) -> usize
     put_byte(digit(x % 10), buffer, place)
 }
 
-// The n lowest hexadecimal digits of a number.
-pub fn put_hex(n: u8, x: u64, buffer: &mut [u8], at: usize) -> usize
-    ensures { λ r. ⌜ putting-rules.putting r (now (buffer .exit)) ≡ putting-rules.put (text-rules.hex n x) at (now (buffer .entry)) ⌝ }
+// The two, and the eight, lowest hexadecimal digits of a number.
+pub fn two_digits(x: u64) -> [u8; 2]
+    ensures { λ r. ⌜ r ≡ text-rules.hex 2 x ⌝ }
 {
-    if n == 0 {
-        return at;
-    }
-    let place = put_hex(n - 1, x / 16, buffer, at);
-    put_byte(digit(x % 16), buffer, place)
+    let high = digit(x / 16 % 16);
+    let low = digit(x % 16);
+    [high, low]
+}
+
+pub fn eight_digits(x: u64) -> [u8; 8]
+    ensures { λ r. ⌜ r ≡ text-rules.hex 8 x ⌝ }
+{
+    let x1 = x / 16;
+    let x2 = x1 / 16;
+    let x3 = x2 / 16;
+    let x4 = x3 / 16;
+    let x5 = x4 / 16;
+    let x6 = x5 / 16;
+    let x7 = x6 / 16;
+    let a = digit(x7 % 16);
+    let b = digit(x6 % 16);
+    let c = digit(x5 % 16);
+    let d = digit(x4 % 16);
+    let e = digit(x3 % 16);
+    let f = digit(x2 % 16);
+    let g = digit(x1 % 16);
+    let h = digit(x % 16);
+    [a, b, c, d, e, f, g, h]
 }

@@ -1,7 +1,4 @@
 -- `printing::flags_line` meets its contract.
-use mathlib.Core.Path.{_≡_, refl, sym, ap, _∙_}
-use native.Mathlib.Omega.{arith}
-use borrow.Author.Tests.{le-ltb, lt-ltb, le-leb, lt-leb, eq-eqb, ne-eqb}
 use borrow.Author.Needs.{needs}
 use Rattle.text.proofs.Appending.{put-then}
 use Rattle.printing.specs.Printed.{flags-line}
@@ -14,8 +11,8 @@ slice-aggregate-put c = search needs
 put-requires : tie.Need-put-requires
 put-requires c κs = search needs
 
-put-hex-requires : tie.Need-put-hex-requires
-put-hex-requires c κs = search needs
+two-digits-requires : tie.Need-two-digits-requires
+two-digits-requires c κs = search needs
 
 slice-aggregate-put-2 : tie.Need-slice-aggregate-put-2
 slice-aggregate-put-2 c = search needs
@@ -23,12 +20,18 @@ slice-aggregate-put-2 c = search needs
 put-requires-2 : tie.Need-put-requires-2
 put-requires-2 c κs = search needs
 
+slice-aggregate-put-3 : tie.Need-slice-aggregate-put-3
+slice-aggregate-put-3 c = search needs
+
+put-requires-3 : tie.Need-put-requires-3
+put-requires-3 c κs = search needs
+
 same-length : tie.Need-same-length
 same-length c = search needs
 
 returns : tie.Need-returns
 unfolding flags-line
-returns c = put-then _ _ _ _ _ _ _ _ (put-then _ _ _ _ _ _ _ _ (c .before .before .before .before .before .before .before .before .before .before .before .put .ensures) (c .before .before .before .before .before .before .before .put-hex .ensures)) (c .before .before .put2 .ensures)
+returns c = put-then _ _ _ _ _ _ _ _ (put-then _ _ _ _ _ _ _ _ (c .before .before .before .before .before .before .before .before .before .before .before .before .before .put .ensures) (rw (c .before .before .before .before .before .before .before .before .before .before .two-digits .ensures) at (c .before .before .before .before .before .before .before .put2 .ensures))) (c .before .before .put3 .ensures)
 
 pub flags-line-spec : {M : Type 1} → statement M
 flags-line-spec =
@@ -36,8 +39,10 @@ flags-line-spec =
     (tie.spec
     slice-aggregate-put
     put-requires
-    put-hex-requires
+    two-digits-requires
     slice-aggregate-put-2
     put-requires-2
+    slice-aggregate-put-3
+    put-requires-3
     same-length
     returns)
