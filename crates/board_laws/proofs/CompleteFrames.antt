@@ -13,7 +13,7 @@ use Rattle.buffers.specs.declared.Turns.{Turns}
 use Rattle.buffers.specs.Turns as turn-rules
 use Rattle.buffers.specs.Turns.{fresh-turns, latest-complete}
 use Rattle.buffers.specs.Story as story
-use Rattle.buffers.specs.Story.{Tale, complete-in, latest-in, how-many, which}
+use Rattle.buffers.specs.Story.{Tale, complete-in, latest-in, word-count, which}
 use Rattle.buffers.specs.Kept.{Kept, start, keep, keeps, complete-of}
 use Rattle.buffers.proofs.Told.{complete-is-history}
 use Rattle.buffers.proofs.LatestFrame.{latest-is-history}
@@ -226,7 +226,7 @@ module _ (depth : ℕ) (sound : bad-depth depth ≡ false) (cs : List Call) (t :
       (calls-explained (board-calls.fresh-of depth) cs [] (fresh-board-well depth sound) tt)
 
   -- A buffer is said to hold a complete frame, of so many words, just if the history says so.
-  pub complete-frames : (u : Buffer) → complete-of u (kept (reached depth cs .device) t) ≡ how-many (complete-in u (frames (history depth cs)))
+  pub complete-frames : (u : Buffer) → complete-of u (kept (reached depth cs .device) t) ≡ word-count (complete-in u (frames (history depth cs)))
   complete-frames u = rw (explained .keeps, explained .tells) (complete-is-history (explained .since) u)
 
   -- The latest complete frame is the one that the history says.

@@ -13,7 +13,7 @@ use Rattle.laws.specs.Histories as device-histories
 use Rattle.board_rules.specs.HandingBack.{hand-back, handed-part}
 use Rattle.board_rules.proofs.BuffersSheet.{every-board-rule, usual, pixels}
 use Rattle.board_laws.specs.BoardHistories as board-histories
-use Rattle.board_laws.specs.Handing.{Bare, a-write, a-rearming, two-buffers, a-run, a-sample, a-run-two, a-sample-two, over, left, calls, left-by, board-after, memories-after, frames-after}
+use Rattle.board_laws.specs.Handing.{Bare, a-write, a-rearming, two-buffers, a-run, a-sample, a-run-two, a-sample-two, over, memories-left, calls, memories-left-by, board-after, memories-after, frames-after}
 
 -- At depth 2: the frame's third word is lost.
 unfoldable pub lost-then-two : List Bare
@@ -35,5 +35,5 @@ second = record { buffer = B; words = 0x80007 ∷ 0xA0009 ∷ []; landed = 2; si
 pub example : (latest-in (frames-after 2 usual lost-then-two) ≡ some second)
     × (handed-part (hand-back (board-after 2 usual lost-then-two) (memories-after 2 usual lost-then-two)) (memories-after 2 usual lost-then-two) ≡ pixels 7 8 ++ pixels 9 10)
     × (latest-in (frames-after 2 usual (lost-then-two ++ a-rearming ∷ [])) ≡ none)
-unfolding every-board-rule lost-then-two over left calls left-by board-histories.after board-histories.after-all board-histories.two-samplings board-histories.samplings-of board-histories.changes-of board-histories.device-events board-histories.happenings board-histories.happenings-of-all board-histories.frame-events board-histories.tell board-histories.tell-all device-histories.samplings device-histories.disabling-of story.any-waiting story.word-of story.landing-of story.end-of story.tell story.story story.frame-in story.if-complete story.complete-in latest-in
+unfolding every-board-rule lost-then-two over memories-left calls memories-left-by board-histories.after board-histories.after-all board-histories.two-samplings board-histories.samplings-of board-histories.changes-of board-histories.device-events board-histories.happenings board-histories.happenings-of-all board-histories.frame-events board-histories.tell board-histories.tell-all device-histories.samplings device-histories.disabling-of story.any-waiting story.word-of story.landing-of story.end-of story.tell story.story story.frame-in story.if-complete story.complete-in latest-in
 example = (refl, refl, refl)

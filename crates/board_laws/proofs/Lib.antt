@@ -6,5 +6,6 @@ pub mod CompleteFrames
 pub mod AsBefore
 pub mod InBuffers
 pub mod SampleHolds
+pub mod CallsHold
 pub mod HandedBack
 pub mod HandingExample

@@ -41,31 +41,31 @@ over l (a-sample-two w) = board-histories.a-sample-two l w
 abbrev pub with-memories : Pair → Both → Both
 with-memories p l = record { a = record { memory = p .a; start = l .a .start }; b = record { memory = p .b; start = l .b .start } }
 
-unfoldable pub left : Board → Both → Bare → Both
-left b l (a-write offset value fits) = l
-left b l a-rearming = l
-left b l one-buffer = l
-left b l two-buffers = l
-left b l (a-run samples) = with-memories (record { a = board-runs.run b (l .a .memory) (l .a .start) samples .memory; b = l .b .memory }) l
-left b l (a-sample w) = with-memories (record { a = board-runs.sample b (l .a .memory) (l .a .start) w .memory; b = l .b .memory }) l
-left b l (a-run-two samples) = with-memories (board-runs.run-two b l samples .memories) l
-left b l (a-sample-two w) = with-memories (board-runs.sample-two b l w .memories) l
+unfoldable pub memories-left : Board → Both → Bare → Both
+memories-left b l (a-write offset value fits) = l
+memories-left b l a-rearming = l
+memories-left b l one-buffer = l
+memories-left b l two-buffers = l
+memories-left b l (a-run samples) = with-memories (record { a = board-runs.run b (l .a .memory) (l .a .start) samples .memory; b = l .b .memory }) l
+memories-left b l (a-sample w) = with-memories (record { a = board-runs.sample b (l .a .memory) (l .a .start) w .memory; b = l .b .memory }) l
+memories-left b l (a-run-two samples) = with-memories (board-runs.run-two b l samples .memories) l
+memories-left b l (a-sample-two w) = with-memories (board-runs.sample-two b l w .memories) l
 
 -- A list of calls, from a board and memories on; and the memories that it leaves.
 unfoldable pub calls : Board → Both → List Bare → List Call
 calls b l [] = []
-calls b l (q ∷ qs) = over l q ∷ calls (after b (over l q)) (left b l q) qs
+calls b l (q ∷ qs) = over l q ∷ calls (after b (over l q)) (memories-left b l q) qs
 
-unfoldable pub left-by : Board → Both → List Bare → Both
-left-by b l [] = l
-left-by b l (q ∷ qs) = left-by (after b (over l q)) (left b l q) qs
+unfoldable pub memories-left-by : Board → Both → List Bare → Both
+memories-left-by b l [] = l
+memories-left-by b l (q ∷ qs) = memories-left-by (after b (over l q)) (memories-left b l q) qs
 
 -- From a board made with a depth, and memories: board and memories after the calls, and the frames that their history tells.
 abbrev pub board-after : ℕ → Both → List Bare → Board
 board-after depth l qs = reached depth (calls (fresh-of depth) l qs)
 
 abbrev pub memories-after : ℕ → Both → List Bare → Both
-memories-after depth l qs = left-by (fresh-of depth) l qs
+memories-after depth l qs = memories-left-by (fresh-of depth) l qs
 
 abbrev pub frames-after : ℕ → Both → List Bare → List Tale
 frames-after depth l qs = frames (history depth (calls (fresh-of depth) l qs))

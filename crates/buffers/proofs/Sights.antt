@@ -14,7 +14,7 @@ use Rattle.buffers.specs.declared.Buffer.the-variants.{A, B}
 use Rattle.buffers.specs.declared.Content.{Content}
 use Rattle.buffers.specs.declared.Content.the-variants.{Nothing, Landing, Complete}
 use Rattle.buffers.specs.Turns.{other, is-landing, is-complete}
-use Rattle.buffers.specs.Story.{Tale, completed, running, waiting, any-waiting, last-buffer, first-of, one-more, word-of, one-landed, landing-of, by-rule-4, end-of, closed-otherwise, armed-anew, same, frame-in, complete, if-complete, how-many}
+use Rattle.buffers.specs.Story.{Tale, completed, running, waiting, any-waiting, last-buffer, first-of, one-more, word-of, one-landed, landing-of, by-rule-4, end-of, closed-otherwise, armed-anew, same, frame-in, complete, if-complete, word-count}
 use Rattle.buffers.proofs.Frames.{any-open, Sound, eldest, eldest-waits, eldest-counts}
 use Rattle.buffers.proofs.Tags.{over, is-open}
 
@@ -213,8 +213,8 @@ sight-landing u fs s w = ap sight-of (frame-landing u fs s w) ∙ go (same u (el
     go false e = refl
 
 -- What is known to be complete is complete.
-pub read-off : (u : Buffer) (fs : List Tale) → Sound fs → cond (is-complete (sight-in u fs .content)) (some (sight-in u fs .place)) none ≡ how-many (if-complete (frame-in u fs))
-unfolding frame-in if-complete how-many
+pub read-off : (u : Buffer) (fs : List Tale) → Sound fs → cond (is-complete (sight-in u fs .content)) (some (sight-in u fs .place)) none ≡ word-count (if-complete (frame-in u fs))
+unfolding frame-in if-complete word-count
 read-off u [] s = refl
 read-off u (f ∷ fs) s = go (is-in u f) (read-off u fs (s .3))
   where
@@ -230,11 +230,11 @@ read-off u (f ∷ fs) s = go (is-in u f) (read-off u fs (s .3))
         back true q = rw (q, eqb-true n l q) (each e (eqb l m) refl)
         back false q = rw (q, ne-eqb n m (λ z. eqb-false n l q (omega arith)), and-zero e)
 
-    counted : (b : Bool) → how-many (cond b (some f) none) ≡ cond b (some (completed f)) none
+    counted : (b : Bool) → word-count (cond b (some f) none) ≡ cond b (some (completed f)) none
     counted true = refl
     counted false = refl
 
-    go : (b : Bool) → cond (is-complete (sight-in u fs .content)) (some (sight-in u fs .place)) none ≡ how-many (if-complete (frame-in u fs))
-        → let o = cond b (some f) (frame-in u fs) in cond (is-complete (sight-of o .content)) (some (sight-of o .place)) none ≡ how-many (if-complete o)
+    go : (b : Bool) → cond (is-complete (sight-in u fs .content)) (some (sight-in u fs .place)) none ≡ word-count (if-complete (frame-in u fs))
+        → let o = cond b (some f) (frame-in u fs) in cond (is-complete (sight-of o .content)) (some (sight-of o .place)) none ≡ word-count (if-complete o)
     go true rest = let c = s .0 in by (f .since) (f .landed) (completed f) (f .ended) (c .recent) (c .part) ∙ sym (counted (complete f))
     go false rest = rest

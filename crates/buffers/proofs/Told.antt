@@ -18,7 +18,7 @@ use Rattle.buffers.specs.declared.Content.the-variants.{Nothing, Landing
 use Rattle.buffers.specs.declared.Turns.{Turns}
 use Rattle.buffers.specs.Turns as rules
 use Rattle.buffers.specs.Turns.{other, is-b, fresh-turns, with-turn, with-tags, with-place-b, with-latest, with-content, content, first-word, word-held, word-lost, oldest-buffer, oldest-opens, next-place, oldest-place, frame-over, last-of-frame, word-landed, frame-ended, is-complete}
-use Rattle.buffers.specs.Story.{Event, held, lost, landed, ended, discarded, rearmed, Tale, any-waiting, last-buffer, word-of, landing-of, end-of, closed-otherwise, armed-anew, tell, story, same, frame-in, complete-in, how-many}
+use Rattle.buffers.specs.Story.{Event, held, lost, landed, ended, discarded, rearmed, Tale, any-waiting, last-buffer, word-of, landing-of, end-of, closed-otherwise, armed-anew, tell, story, same, frame-in, complete-in, word-count}
 use Rattle.buffers.specs.Kept.{Kept, start, landed-at, keep, keeps, place-in, complete-of}
 use Rattle.buffers.proofs.Frames.{any-open, Sound, eldest, none-lands, open-landing, last-landing, sound-landing, sound-word, open-word, last-word, last-end, sound-end, open-end, open-closed, waiting-closed, last-closed, sound-closed, sound-lost, open-armed, last-armed, sound-armed}
 use Rattle.buffers.proofs.Tags.{Tag, in-b, opening, weigh, weigh-append, weigh-rest, weigh-first, tag-of, queue, queue-none, queue-word, queue-landing, next-opens, over, queue-over, queue-end, queue-armed}
@@ -381,7 +381,7 @@ unfolding start fresh-turns queue weigh frame-in
 tells-start = tells-told A [] tt
 
 -- A buffer is said to hold a complete frame, of so many words, just if the history says so.
-pub complete-is-history : (es : List Event) (u : Buffer) → complete-of u (keeps start es) ≡ how-many (complete-in u (story [] es))
+pub complete-is-history : (es : List Event) (u : Buffer) → complete-of u (keeps start es) ≡ word-count (complete-in u (story [] es))
 unfolding complete-of complete-in
 complete-is-history es u = by u ∙ read-off u (story [] es) (t .sound)
   where

@@ -123,9 +123,9 @@ latest-in [] = none
 latest-in (f ∷ fs) = cond (ltb 0 (f .landed)) (cond (complete f) (some f) (complete-in (other (f .buffer)) fs)) (latest-in fs)
 
 -- Of such a frame: how many words, and its buffer.
-unfoldable pub how-many : Option Tale → Option ℕ
-how-many none = none
-how-many (some f) = some (completed f)
+unfoldable pub word-count : Option Tale → Option ℕ
+word-count none = none
+word-count (some f) = some (completed f)
 
 unfoldable pub which : Option Tale → Option Buffer
 which none = none
