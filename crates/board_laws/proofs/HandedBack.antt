@@ -23,8 +23,9 @@ use Rattle.buffers.proofs.Sights.{Sight, sight-of, sight-in}
 use Rattle.buffers.proofs.Told.{Tells}
 use Rattle.buffers.proofs.Found.{found-counts, latest-there}
 use Rattle.refusals.specs.Refusals.{Answer, refused, answered, answer}
-use Rattle.output.specs.Output.{contents, bytes}
+use Rattle.output.specs.Output.{contents, all-bytes}
 use Rattle.output.specs.WellFormed.{bad-depth}
+use Rattle.output.proofs.Bytes.{all-bytes-length}
 use Rattle.rules.specs.declared.Device.{Device}
 use Rattle.rules.specs.State.{output-of}
 use Rattle.board_rules.specs.declared.Mode.{Mode}
@@ -36,7 +37,7 @@ use Rattle.board_rules.specs.BoardRuns.{Both, frame-buffer, lent, buffers, turn
 use Rattle.board_rules.specs.HandingBack.{Handed, frame-in, span-of, spans, handing-refusal, handed-from, handed-latest, latest-frame, hand-back, handed-part}
 use Rattle.board_rules.specs.TwoBuffers.{part}
 use Rattle.board_laws.specs.BoardHistories.{Call}
-use Rattle.board_laws.specs.Handing.{Bare, calls, board-after, memories-after, frames-after, frame-handed, to-hand, all-bytes}
+use Rattle.board_laws.specs.Handing.{Bare, calls, board-after, memories-after, frames-after, frame-handed, to-hand}
 use Rattle.board_laws.proofs.BoardConservation.{fresh-board-well, never-malformed}
 use Rattle.board_laws.proofs.CompleteFrames as complete-frames
 use Rattle.board_laws.proofs.InBuffers.{Stands, Holds}
@@ -44,11 +45,6 @@ use Rattle.board_laws.proofs.SampleHolds.{tells-of}
 use Rattle.board_laws.proofs.CallsHold.{off, Shows, calls-show}
 
 -- Of a complete frame: it is in its buffer, its words have all landed since the last re-arming, and stand there from the first byte on.
-four-each : (vs : List ℕ) → length (all-bytes vs) ≡ 4 * length vs
-unfolding all-bytes bytes
-four-each [] = refl
-four-each (v ∷ vs) = omega (arith, four-each vs)
-
 module _ (k : Kept) (fs : List Tale) (t : Tells k fs) (f : Tale) (is : latest-in fs ≡ some f) where
   here : story.frame-in (f .buffer) fs ≡ some f
   here = latest-there fs f is .0
@@ -71,7 +67,7 @@ module _ (k : Kept) (fs : List Tale) (t : Tells k fs) (f : Tale) (is : latest-in
       ap (λ (n : ℕ). take (4 * n) m) (sym all) ∙ now ∙ ap (λ (n : ℕ). all-bytes (take n (f .words))) all ∙ ap all-bytes (take-length (f .words))
 
   long-enough : (m : List ℕ) → Stands m (story.frame-in (f .buffer) fs) → 4 * completed f ≤ length m
-  long-enough m h = omega (arith, ap length (all-stand m h), four-each (f .words), length-take (4 * completed f) m)
+  long-enough m h = omega (arith, ap length (all-stand m h), all-bytes-length (f .words), length-take (4 * completed f) m)
 
 -- The answer of a board in mode two, by the frames told.
 by-buffer : (u : Buffer) (l : Both) → part u (buffers l) ≡ frame-buffer (lent u l)

@@ -24,10 +24,10 @@ use Rattle.buffers.proofs.Tags.{Tag, in-b, opening, weigh, weigh-first, tag-of,
 use Rattle.buffers.proofs.Sights.{Sight, sight-of, sight-in, skip, frame-landing, frame-eldest}
 use Rattle.buffers.proofs.Told.{Tells, oldest-is}
 use Rattle.buffers.proofs.Words.{held-words, words-none, words-word, words-landing, words-closed, words-end, words-armed}
-use Rattle.output.specs.Output.{bytes, room, stored}
+use Rattle.output.specs.Output.{bytes, all-bytes, room, stored}
+use Rattle.output.proofs.Bytes.{all-bytes-last}
 use Rattle.output.proofs.Granting.{has-room}
 use Rattle.board_rules.specs.TwoBuffers.{Pair, part, with-part}
-use Rattle.board_laws.specs.Handing.{all-bytes}
 
 -- In a buffer, by the frame in it.
 abbrev pub Stands : List ℕ → Option Tale → Type 0
@@ -85,11 +85,6 @@ stands-end u m (f ∷ fs) h = by-cond (λ (l : List Tale). Stands m (frame-in u 
     go false h = h
 
 -- A landing: one word more stands in the buffer.
-bytes-last : (vs : List ℕ) (v : ℕ) → all-bytes (vs ++ v ∷ []) ≡ all-bytes vs ++ bytes v
-unfolding all-bytes bytes
-bytes-last [] v = refl
-bytes-last (w ∷ vs) v = ap (λ l. bytes w ++ l) (bytes-last vs v)
-
 four : (v : ℕ) → length (bytes v) ≡ 4
 unfolding bytes
 four v = refl
@@ -107,7 +102,7 @@ one-stands f m less recent space before = λ e.
     let n = f .landed in
     let is : f .since ≡ n = omega arith in
     let v = getD (f .words) n 0 in
-    rw (is, one-stored n v m (has-room n m (rw is at space)), add-one, take-suc (f .words) n 0 less, bytes-last (take n (f .words)) v)
+    rw (is, one-stored n v m (has-room n m (rw is at space)), add-one, take-suc (f .words) n 0 less, all-bytes-last (take n (f .words)) v)
     (ap (λ l. l ++ bytes v) (go (eqb n 0) refl is))
   where
     go : (b : Bool) → eqb (f .landed) 0 ≡ b → f .since ≡ f .landed → take (4 * f .landed) m ≡ all-bytes (take (f .landed) (f .words))

@@ -1,10 +1,9 @@
 -- W2: lists of calls with one pair of memories and starts handed on, each call over the memories that the last one left; and what handing back has to answer after them, by the history alone.
 use mathlib.Core.Bool.{cond, _||_}
-use mathlib.Core.List.{List, [], _∷_, _++_}
+use mathlib.Core.List.{List, [], _∷_}
 use mathlib.Core.Option.{Option, none, some}
 use Prim.Native.Nat.{ℕ, _*_, _<_, _^_}
 use Rattle.buffers.specs.Story.{Tale, completed}
-use Rattle.output.specs.Output.{bytes}
 use Rattle.refusals.specs.Refusals.{Answer, refused, answered}
 use Rattle.board_rules.specs.declared.Board.{Board}
 use Rattle.board_rules.specs.TwoBuffers.{Pair}
@@ -78,8 +77,3 @@ frame-handed (some f) = frame-in (f .buffer) (4 * completed f)
 
 unfoldable pub to-hand : Both → Option Tale → Answer Handed
 to-hand l o = cond (beyond (l .a) || beyond (l .b)) (refused 9) (answered (frame-handed o))
-
--- The bytes of some words, in order.
-unfoldable pub all-bytes : List ℕ → List ℕ
-all-bytes [] = []
-all-bytes (v ∷ vs) = bytes v ++ all-bytes vs

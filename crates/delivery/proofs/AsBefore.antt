@@ -10,8 +10,9 @@ use native.Mathlib.Omega.{arith}
 use lib.ListN.{length, take, drop, length-append, length-drop, take-append-drop}
 use lib.Seq.{append-snoc, length-take-le, take-length, take-at, drop-at, drop-drop}
 use Rattle.buffers.specs.declared.Buffer.the-variants.{A, B}
+use Rattle.output.specs.Output.{all-bytes}
 use Rattle.output.specs.WellFormed.{bad-depth}
-use Rattle.landing.specs.Memory.{all-bytes, with-words}
+use Rattle.landing.specs.Memory.{with-words}
 use Rattle.landing.proofs.Buffer.{filled, filled-stored}
 use Rattle.rules.specs.declared.Capture.{Capture}
 use Rattle.rules.specs.Sample.{capture-sample, next-capture}

@@ -7,11 +7,11 @@ use Prim.Native.Nat.{ℕ, _+_, _*_, _≤_, _<_}
 use native.Mathlib.Omega.{arith}
 use lib.ListN.{length, take, drop, length-append}
 use lib.Seq.{append-snoc, take-append-le, take-at, drop-at, drop-drop}
-use Rattle.output.specs.Output.{contents, laid, with-held, holding, fresh-output, room}
+use Rattle.output.specs.Output.{contents, laid, with-held, holding, fresh-output, all-bytes, room}
 use Rattle.queue.specs.Queue.{Input, start, leave, from, after, words}
 use Rattle.queue.proofs.Flow.{words-append, after-snoc, queue-law}
 use Rattle.queue.proofs.Theorem.{finds-room, served}
-use Rattle.landing.specs.Memory.{all-bytes, with-words}
+use Rattle.landing.specs.Memory.{with-words}
 use Rattle.landing.specs.Landing.{Out, first-rule, put, puts, Fits, Conditions, Landed}
 use Rattle.landing.proofs.Buffer.{filled-room}
 use Rattle.landing.proofs.Beside.{Beside, rule-beside, put-beside}

@@ -4,3 +4,4 @@ pub mod Granting
 pub mod ReadBack
 pub mod WellFormed
 pub mod Untouched
+pub mod Bytes

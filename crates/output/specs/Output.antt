@@ -87,6 +87,11 @@ count-landed o =
 unfoldable pub bytes : ℕ → List ℕ
 bytes v = v % 256 ∷ v / 256 % 256 ∷ v / 65536 % 256 ∷ v / 16777216 % 256 ∷ []
 
+-- The bytes of some words, in order.
+unfoldable pub all-bytes : List ℕ → List ℕ
+all-bytes [] = []
+all-bytes (v ∷ vs) = bytes v ++ all-bytes vs
+
 -- Word k of the frame buffer, bytes 4k to 4k + 3. "Room" means that those bytes exist.
 unfoldable pub room : ℕ → List ℕ → Bool
 room k buffer = leb (4 * k + 4) (length buffer)
