@@ -18,7 +18,7 @@ use Rattle.buffers.specs.Turns.{latest-complete}
 use Rattle.buffers.specs.Kept.{place-in}
 use Rattle.rules.specs.declared.Device.{Device}
 use Rattle.board_rules.specs.declared.Board.{Board}
-use Rattle.board_rules.specs.State.{is-two, kept, malformed}
+use Rattle.board_rules.specs.State.{is-two, kept-of, malformed}
 use Rattle.board_rules.specs.BoardRuns.{Both, lent, turns-of}
 use Rattle.board_rules.specs.HandingBack.{too-short, frame-in, spans, span-of, beyond-span, handing-refusal, handed-from, handed-latest, latest-frame, hand-back}
 use Rattle.board.specs.Answers.{Named}
@@ -57,7 +57,7 @@ latest-there : (o : Option Buffer) (d : Device) (t : Turns) (l : Both) → ((u :
     → Named (answered (handed-latest o d t (spans l))) l
 unfolding handed-latest Named
 latest-there none d t l h = tt
-latest-there (some u) d t l h = from-there u (4 * place-in u (kept d t)) l (h u)
+latest-there (some u) d t l h = from-there u (4 * place-in u (kept-of d t)) l (h u)
 
 pub named : (b : Board) (l : Both) → Named (hand-back b l) l
 unfolding latest-frame Named

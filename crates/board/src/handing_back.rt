@@ -6,7 +6,7 @@ ghost use lib.ListN.{length, take, drop};
 ghost use Rattle.refusals.specs.Refusals.{answered};
 ghost use Rattle.buffers.specs.Turns.{latest-complete as latest-in};
 ghost use Rattle.buffers.specs.Kept.{place-in};
-ghost use Rattle.board_rules.specs.State.{kept};
+ghost use Rattle.board_rules.specs.State.{kept-of};
 ghost use Rattle.board_rules.specs.HandingBack as handing-rules;
 ghost use Rattle.board.specs.Answers as call-answers;
 use crate::Handed;
@@ -23,7 +23,7 @@ use rules::Device;
 
 // The place of the next word in a buffer.
 fn place_in(u: Buffer, d: Device, turns: Turns) -> u32
-    ensures { λ r. ⌜ r ≡ place-in u (kept d turns) ⌝ }
+    ensures { λ r. ⌜ r ≡ place-in u (kept-of d turns) ⌝ }
 {
     match u {
         Buffer::A => d.core.output.place,

@@ -41,7 +41,7 @@ use Rattle.board_rules.specs.BoardRuns.{one-refusal, run, sample, Both, two-ref
 use Rattle.board_rules.specs.TwoBuffers as buffer-rules
 use Rattle.board_rules.specs.TwoBuffers.{part, landing-in, two-step, two-steps}
 use Rattle.board_rules.proofs.WellFormed.{TurnsOk}
-use Rattle.board_laws.specs.BoardHistories.{Call, a-write, a-rearming, one-buffer, two-buffers, a-run, a-sample, a-run-two, a-sample-two, after, after-all, reached, Happening, on-device, byte-of, two-samplings, samplings-of, changes-of, device-events, happenings, happenings-of-all, history, events}
+use Rattle.board_laws.specs.BoardHistories.{Call, a-write, a-rearming, one-buffer, two-buffers, a-run, a-sample, a-run-two, a-sample-two, after, after-all, reached, Happening, on-device, landing-byte, two-samplings, samplings-of, changes-of, device-events, happenings, happenings-of-all, history, events}
 use Rattle.board_laws.proofs.TwoKeeps.{oldest-at-most, two-step-keeps}
 use Rattle.board_laws.proofs.BoardConservation.{board-facts, opened-ok, call-keeps, fresh-board-well}
 
@@ -127,7 +127,7 @@ two-step-samples : (x : buffer-rules.Two) (w : ℕ) → two-step x w .after .dev
 unfolding two-step with-place
 two-step-samples x w = step-samples (placed (oldest-place (x .device .core .output .place) (x .turns)) (x .device)) (part (oldest-buffer (x .turns)) (x .buffers)) w
 
-pub same-byte : (u : Buffer) (o : Option ℕ) → byte-of (landing-in u o) ≡ o
+pub same-byte : (u : Buffer) (o : Option ℕ) → landing-byte (landing-in u o) ≡ o
 same-byte u none = refl
 same-byte u (some byte) = refl
 
@@ -141,7 +141,7 @@ two-step-does : (x : buffer-rules.Two) (w : ℕ) (ds : List device-histories.Cal
     device-histories.a-placing (r .after .device .core .output .place) ∷
     ds)
     d′
-    (sampled (capture-of (x .device)) w (byte-of (r .landing)) (r .packed) ∷ es)
+    (sampled (capture-of (x .device)) w (landing-byte (r .landing)) (r .packed) ∷ es)
 unfolding two-step with-place
 two-step-does x w ds d′ es f t good few h =
     let d = x .device in

@@ -35,13 +35,13 @@ use Rattle.laws.proofs.CountsFromHistory.{none-disabled}
 use Rattle.board_rules.specs.declared.Mode.{Mode}
 use Rattle.board_rules.specs.declared.Mode.the-variants.{One, Two}
 use Rattle.board_rules.specs.declared.Board.{Board}
-use Rattle.board_rules.specs.State.{is-two, kept, malformed}
+use Rattle.board_rules.specs.State.{is-two, kept-of, malformed}
 use Rattle.board_rules.specs.BoardCalls as board-calls
 use Rattle.board_rules.specs.BoardCalls.{mode-after, write, rearmed-mode, rearm, set-mode}
 use Rattle.board_rules.specs.BoardRuns.{one-refusal, run, sample, Both, two-refusal, buffers, turns-of, opened, board, run-two, sample-two}
 use Rattle.board_rules.specs.TwoBuffers as buffer-rules
 use Rattle.board_rules.specs.TwoBuffers.{part, sample-events, two-step, two-steps}
-use Rattle.board_laws.specs.BoardHistories.{Call, a-write, a-rearming, one-buffer, two-buffers, a-run, a-sample, a-run-two, a-sample-two, after, after-all, reached, Happening, on-device, rearmed, mode-set, byte-of, two-samplings, samplings-of, changes-of, device-events, happenings, happenings-of-all, history, frame-events, tell, tell-all, frames}
+use Rattle.board_laws.specs.BoardHistories.{Call, a-write, a-rearming, one-buffer, two-buffers, a-run, a-sample, a-run-two, a-sample-two, after, after-all, reached, Happening, on-device, rearmed, mode-set, landing-byte, two-samplings, samplings-of, changes-of, device-events, happenings, happenings-of-all, history, frame-events, tell, tell-all, frames}
 use Rattle.board_laws.proofs.TwoKeeps.{keeps-append, two-step-held}
 use Rattle.board_laws.proofs.BoardConservation.{board-facts, write-counted, call-keeps, fresh-board-well}
 use Rattle.board_laws.proofs.AsDevice.{same-byte, two-steps-enable}
@@ -58,17 +58,17 @@ story-append fs [] more = refl
 story-append fs (e ∷ es) more = story-append (story.tell fs e) es more
 
 pub explained-on : {k k′ : Kept} {fs fs′ : List Tale} (es : List story.Event) → Explained k fs → k′ ≡ keeps k es → fs′ ≡ story.story fs es → Explained k′ fs′
-explained-on es x kept told =
+explained-on es x kept-of told =
     record {
       since = x .since ++ es;
-      keeps = rw (keeps-append start (x .since) es, kept, x .keeps);
+      keeps = rw (keeps-append start (x .since) es, kept-of, x .keeps);
       tells = rw (story-append [] (x .since) es, told, x .tells);
     }
 
 -- Of a board: nothing is to be explained in mode one.
 abbrev pub Explains : Device → Mode → List Tale → Type 0
 Explains d One fs = Unit {0}
-Explains d (Two t) fs = Explained (kept d t) fs
+Explains d (Two t) fs = Explained (kept-of d t) fs
 
 -- A list of happenings after another.
 pub tell-append : (fs : List Tale) (hs gs : List Happening) → tell-all fs (hs ++ gs) ≡ tell-all (tell-all fs hs) gs
@@ -80,22 +80,22 @@ tell-append fs (h ∷ hs) gs = tell-append (tell fs h) hs gs
 pub two-step-kept : (x : buffer-rules.Two) (w : ℕ)
     → let r = two-step x w in
     let d = x .device in
-    kept (r .after .device) (r .after .turns) ≡ keeps (kept d (x .turns)) (sample-events (capture-of d) w (byte-of (r .landing)) (r .packed))
+    kept-of (r .after .device) (r .after .turns) ≡ keeps (kept-of d (x .turns)) (sample-events (capture-of d) w (landing-byte (r .landing)) (r .packed))
 unfolding two-step with-place
 two-step-kept x w =
     let d = x .device in
     let u = turn-rules.oldest-buffer (x .turns) in
     let r = run-rules.step (placed (turn-rules.oldest-place (d .core .output .place) (x .turns)) d) (part u (x .buffers)) w in
-    let k = keeps (kept d (x .turns)) (sample-events (capture-of d) w (r .landing) (r .packed)) in
+    let k = keeps (kept-of d (x .turns)) (sample-events (capture-of d) w (r .landing) (r .packed)) in
     rw (same-byte u (r .landing)) (λ i. record { turns = k .turns; place-a = k .place-a; held = two-step-held x w i })
 
-two-steps-explained : (x : buffer-rules.Two) (ws : List ℕ) (fs : List Tale) → Explained (kept (x .device) (x .turns)) fs
-    → let y = two-steps x ws in Explained (kept (y .device) (y .turns)) (tell-all fs (map on-device (two-samplings x ws)))
+two-steps-explained : (x : buffer-rules.Two) (ws : List ℕ) (fs : List Tale) → Explained (kept-of (x .device) (x .turns)) fs
+    → let y = two-steps x ws in Explained (kept-of (y .device) (y .turns)) (tell-all fs (map on-device (two-samplings x ws)))
 unfolding two-steps two-samplings tell-all tell frame-events
 two-steps-explained x [] fs h = h
 two-steps-explained x (w ∷ ws) fs h =
     let r = two-step x w in
-    two-steps-explained (r .after) ws _ (explained-on (sample-events (capture-of (x .device)) w (byte-of (r .landing)) (r .packed)) h (two-step-kept x w) refl)
+    two-steps-explained (r .after) ws _ (explained-on (sample-events (capture-of (x .device)) w (landing-byte (r .landing)) (r .packed)) h (two-step-kept x w) refl)
 
 -- A register write. It leaves the place; where ENABLE falls, nothing is held after it.
 write-at-place : (d : Device) (r : Found) (v : ℕ) → register-rules.write-at d r v .core .output .place ≡ d .core .output .place
@@ -220,13 +220,13 @@ calls-explained b (c ∷ cs) fs e h =
 
 -- From a board made with a depth from 1 to 32, in mode two.
 module _ (depth : ℕ) (sound : bad-depth depth ≡ false) (cs : List Call) (t : Turns) (two : reached depth cs .mode ≡ Two t) where
-  pub explained : Explained (kept (reached depth cs .device) t) (frames (history depth cs))
+  pub explained : Explained (kept-of (reached depth cs .device) t) (frames (history depth cs))
   explained =
       subst (λ (m : Mode). Explains (reached depth cs .device) m (frames (history depth cs))) two
       (calls-explained (board-calls.fresh-of depth) cs [] (fresh-board-well depth sound) tt)
 
   -- A buffer is said to hold a complete frame, of so many words, just if the history says so.
-  pub complete-frames : (u : Buffer) → complete-of u (kept (reached depth cs .device) t) ≡ word-count (complete-in u (frames (history depth cs)))
+  pub complete-frames : (u : Buffer) → complete-of u (kept-of (reached depth cs .device) t) ≡ word-count (complete-in u (frames (history depth cs)))
   complete-frames u = rw (explained .keeps, explained .tells) (complete-is-history (explained .since) u)
 
   -- The latest complete frame is the one that the history says.

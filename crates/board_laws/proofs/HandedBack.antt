@@ -31,7 +31,7 @@ use Rattle.rules.specs.State.{output-of}
 use Rattle.board_rules.specs.declared.Mode.{Mode}
 use Rattle.board_rules.specs.declared.Mode.the-variants.{One, Two}
 use Rattle.board_rules.specs.declared.Board.{Board}
-use Rattle.board_rules.specs.State.{is-two, kept, malformed}
+use Rattle.board_rules.specs.State.{is-two, kept-of, malformed}
 use Rattle.board_rules.specs.BoardCalls as board-calls
 use Rattle.board_rules.specs.BoardRuns.{Both, frame-buffer, lent, buffers, turns-of}
 use Rattle.board_rules.specs.HandingBack.{Handed, frame-in, span-of, spans, handing-refusal, handed-from, handed-latest, latest-frame, hand-back, handed-part}
@@ -78,7 +78,7 @@ by-span : (u : Buffer) (l : Both) → length (frame-buffer (lent u l)) ≡ span-
 by-span A l = length-drop (l .a .start) (l .a .memory)
 by-span B l = length-drop (l .b .start) (l .b .memory)
 
-module _ (d : Device) (t : Turns) (l : Both) (fs : List Tale) (told : Tells (kept d t) fs) (h : Holds (contents (output-of d)) (buffers l) fs) where
+module _ (d : Device) (t : Turns) (l : Both) (fs : List Tale) (told : Tells (kept-of d t) fs) (h : Holds (contents (output-of d)) (buffers l) fs) where
   stands-there : (f : Tale) → Stands (frame-buffer (lent (f .buffer) l)) (story.frame-in (f .buffer) fs)
   stands-there f = subst (λ (m : List ℕ). Stands m (story.frame-in (f .buffer) fs)) (by-buffer (f .buffer) l) (h .stands (f .buffer))
 
@@ -86,13 +86,13 @@ module _ (d : Device) (t : Turns) (l : Both) (fs : List Tale) (told : Tells (kep
   unfolding which handed-latest handed-from frame-handed
   latest-handed none is = refl
   latest-handed (some f) is =
-      let long = long-enough (kept d t) fs told f is (frame-buffer (lent (f .buffer) l)) (stands-there f) in
+      let long = long-enough (kept-of d t) fs told f is (frame-buffer (lent (f .buffer) l)) (stands-there f) in
       let s = span-of (f .buffer) (spans l) in
-      rw (all-placed (kept d t) fs told f is, le-ltb (s .length - s .start) (4 * completed f) (omega (arith, by-span (f .buffer) l)))
+      rw (all-placed (kept-of d t) fs told f is, le-ltb (s .length - s .start) (4 * completed f) (omega (arith, by-span (f .buffer) l)))
 
   latest-part : (f : Tale) → latest-in fs ≡ some f → handed-part (answered (frame-in (f .buffer) (4 * completed f))) l ≡ all-bytes (f .words)
   unfolding handed-part
-  latest-part f is = all-stand (kept d t) fs told f is (frame-buffer (lent (f .buffer) l)) (stands-there f)
+  latest-part f is = all-stand (kept-of d t) fs told f is (frame-buffer (lent (f .buffer) l)) (stands-there f)
 
 -- A start beyond its memory is refused 9; else the answer is of the latest complete frame kept.
 answer-two : (d : Device) (t : Turns) (l : Both) → malformed (record { device = d; mode = Two t }) ≡ false
@@ -130,7 +130,7 @@ module _ (depth : ℕ) (sound : bad-depth depth ≡ false) (l : Both) (qs : List
   shown t two =
       subst (λ (mode : Mode). Shows (b .device) mode m fs) two (calls-show (board-calls.fresh-of depth) l qs [] (fresh-board-well depth sound) tt tt)
 
-  told : (t : Turns) → b .mode ≡ Two t → Tells (kept (b .device) t) fs
+  told : (t : Turns) → b .mode ≡ Two t → Tells (kept-of (b .device) t) fs
   told t two = tells-of (complete-frames.explained depth sound cs t two)
 
   in-two : (t : Turns) → b .mode ≡ Two t → hand-back b m ≡ to-hand m (latest-in fs)

@@ -35,5 +35,5 @@ second = record { buffer = B; words = 0x80007 ∷ 0xA0009 ∷ []; landed = 2; si
 pub example : (latest-in (frames-after 2 usual lost-then-two) ≡ some second)
     × (handed-part (hand-back (board-after 2 usual lost-then-two) (memories-after 2 usual lost-then-two)) (memories-after 2 usual lost-then-two) ≡ pixels 7 8 ++ pixels 9 10)
     × (latest-in (frames-after 2 usual (lost-then-two ++ a-rearming ∷ [])) ≡ none)
-unfolding every-board-rule lost-then-two over memories-left calls memories-left-by board-histories.after board-histories.after-all board-histories.two-samplings board-histories.samplings-of board-histories.changes-of board-histories.device-events board-histories.happenings board-histories.happenings-of-all board-histories.frame-events board-histories.tell board-histories.tell-all device-histories.samplings device-histories.disabling-of story.any-waiting story.word-of story.landing-of story.end-of story.tell story.story story.frame-in story.if-complete story.complete-in latest-in
+unfolding every-board-rule lost-then-two over memories-left calls memories-left-by board-histories.after board-histories.after-all board-histories.two-samplings board-histories.samplings-of board-histories.changes-of board-histories.device-events board-histories.happenings board-histories.happenings-of-all board-histories.frame-events board-histories.tell board-histories.tell-all device-histories.samplings device-histories.disabling-of story.any-waiting story.word-of story.landing-of story.ending-of story.tell story.story story.frame-in story.if-complete story.complete-in latest-in
 example = (refl, refl, refl)

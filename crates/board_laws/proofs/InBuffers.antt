@@ -17,7 +17,7 @@ use Rattle.bits.proofs.Booleans.{and-true, by-cond}
 use Rattle.buffers.specs.declared.Buffer.{Buffer}
 use Rattle.buffers.specs.declared.Buffer.the-variants.{A, B}
 use Rattle.buffers.specs.Turns.{other, oldest-buffer, oldest-opens, next-place, oldest-place}
-use Rattle.buffers.specs.Story.{Tale, completed, running, any-waiting, first-of, one-more, word-of, one-landed, landing-of, by-rule-4, end-of, closed-otherwise, armed-anew, same, frame-in}
+use Rattle.buffers.specs.Story.{Tale, completed, running, any-waiting, first-of, one-more, word-of, one-landed, landing-of, by-rule-4, ending-of, closed-otherwise, armed-anew, same-buffer, frame-in}
 use Rattle.buffers.specs.Kept.{Kept}
 use Rattle.buffers.proofs.Frames.{Sound, eldest, eldest-waits, eldest-counts}
 use Rattle.buffers.proofs.Tags.{Tag, in-b, opening, weigh, weigh-first, tag-of, queue, queue-landing}
@@ -35,7 +35,7 @@ Stands m none = Unit {0}
 Stands m (some f) = f .since ≡ f .landed → take (4 * f .landed) m ≡ all-bytes (take (f .landed) (f .words))
 
 abbrev is-in : Buffer → Tale → Bool
-is-in u f = same u (f .buffer) && ltb 0 (f .landed)
+is-in u f = same-buffer u (f .buffer) && ltb 0 (f .landed)
 
 -- A word, held or lost.
 stands-word : (u : Buffer) (vs m : List ℕ) (fs : List Tale) → Sound fs → Stands m (frame-in u fs) → Stands m (frame-in u (word-of vs fs))
@@ -75,8 +75,8 @@ stands-armed u m (f ∷ fs) = go (is-in u f) (stands-armed u m fs)
     go false rest = rest
 
 -- The end by rule 4.
-stands-end : (u : Buffer) (m : List ℕ) (fs : List Tale) → Stands m (frame-in u fs) → Stands m (frame-in u (end-of fs))
-unfolding end-of frame-in
+stands-end : (u : Buffer) (m : List ℕ) (fs : List Tale) → Stands m (frame-in u fs) → Stands m (frame-in u (ending-of fs))
+unfolding ending-of frame-in
 stands-end u m [] h = h
 stands-end u m (f ∷ fs) h = by-cond (λ (l : List Tale). Stands m (frame-in u l)) (running f) _ _ (λ e. go (is-in u f) h) (λ e. h)
   where
@@ -109,7 +109,7 @@ one-stands f m less recent space before = λ e.
     go true z is = nothing-stands (f .landed) m (f .words) (eqb-true (f .landed) 0 z)
     go false z is = before z is
 
-part-with : (w u : Buffer) (m : List ℕ) (p : Pair) → part w (with-part u m p) ≡ cond (same w u) m (part w p)
+part-with : (w u : Buffer) (m : List ℕ) (p : Pair) → part w (with-part u m p) ≡ cond (same-buffer w u) m (part w p)
 part-with A A m p = refl
 part-with A B m p = refl
 part-with B A m p = refl
@@ -120,7 +120,7 @@ stands-landed : (fs : List Tale) (p : Pair) → Sound fs → any-waiting fs ≡ 
     let m = part (g .buffer) p in
     room (g .since) m ≡ true → (u : Buffer) → Stands (part u (with-part (g .buffer) (stored (g .since) (getD (g .words) (g .landed) 0) m) p)) (frame-in u (landing-of fs))
 stands-landed fs p s w h space u =
-    rw (part-with u (eldest fs .buffer) (stored (eldest fs .since) (getD (eldest fs .words) (eldest fs .landed) 0) (part (eldest fs .buffer) p)) p, frame-landing u fs s w) (go (same u (eldest fs .buffer)) refl)
+    rw (part-with u (eldest fs .buffer) (stored (eldest fs .since) (getD (eldest fs .words) (eldest fs .landed) 0) (part (eldest fs .buffer) p)) p, frame-landing u fs s w) (go (same-buffer u (eldest fs .buffer)) refl)
   where
     now : Stands (stored (eldest fs .since) (getD (eldest fs .words) (eldest fs .landed) 0) (part (eldest fs .buffer) p)) (some (one-landed (eldest fs)))
     now =
@@ -129,7 +129,7 @@ stands-landed fs p s w h space u =
         (eldest-counts fs s w .recent) space
         (λ z. subst (Stands (part (eldest fs .buffer) p)) (frame-eldest fs s w z) (h (eldest fs .buffer)))
 
-    go : (b : Bool) → same u (eldest fs .buffer) ≡ b
+    go : (b : Bool) → same-buffer u (eldest fs .buffer) ≡ b
         → Stands (cond b (stored (eldest fs .since) (getD (eldest fs .words) (eldest fs .landed) 0) (part (eldest fs .buffer) p)) (part u p)) (cond b (some (one-landed (eldest fs))) (frame-in u fs))
     go true e = now
     go false e = h u
@@ -174,7 +174,7 @@ pub holds-lost : {vs : List ℕ} {p : Pair} {fs : List Tale} → Sound fs → Ho
 holds-lost {p = p} {fs = fs} s h =
     record { words = sym (words-closed (word-of [] fs)); stands = λ u. stands-closed u (part u p) (word-of [] fs) (stands-word u [] (part u p) fs s (h .stands u)) }
 
-pub holds-ended : {vs : List ℕ} {p : Pair} {fs : List Tale} → Holds vs p fs → Holds vs p (end-of fs)
+pub holds-ended : {vs : List ℕ} {p : Pair} {fs : List Tale} → Holds vs p fs → Holds vs p (ending-of fs)
 holds-ended {p = p} {fs = fs} h = record { words = h .words ∙ sym (words-end fs); stands = λ u. stands-end u (part u p) fs (h .stands u) }
 
 pub holds-rearmed : {vs : List ℕ} {p : Pair} {fs : List Tale} → Holds vs p fs → Holds vs p (map armed-anew fs)

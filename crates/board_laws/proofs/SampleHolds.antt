@@ -30,9 +30,9 @@ use Rattle.rules.specs.Sample.{capture-sample}
 use Rattle.rules.specs.RegisterCalls.{placed}
 use Rattle.rules.specs.Run.{after-word, complete, after-grant, counted, step}
 use Rattle.laws.proofs.Errors.{no-word-in-error}
-use Rattle.board_rules.specs.State.{kept}
-use Rattle.board_rules.specs.TwoBuffers.{Pair, part, with-part, landing-event, word-event, closes, frame-event, sample-events, Two, two-step, two-steps}
-use Rattle.board_laws.specs.BoardHistories.{on-device, byte-of, two-samplings, frame-events, tell, tell-all}
+use Rattle.board_rules.specs.State.{kept-of}
+use Rattle.board_rules.specs.TwoBuffers.{Pair, part, with-part, landing-event, word-event, has-closed, frame-event, sample-events, Two, two-step, two-steps}
+use Rattle.board_laws.specs.BoardHistories.{on-device, landing-byte, two-samplings, frame-events, tell, tell-all}
 use Rattle.board_laws.proofs.AsDevice.{same-byte}
 use Rattle.board_laws.proofs.CompleteFrames.{Explained, explained-on, story-append, two-step-kept}
 use Rattle.board_laws.proofs.InBuffers.{Holds, holds-held, holds-lost, holds-ended, holds-discarded, holds-landed}
@@ -108,13 +108,13 @@ word-holds v b c x p fs count s h =
 after-holds : (o : Option ℕ) (s : Capture) (c : Captured) (x : OutputState) (p : Pair) (fs : List Tale) → (c .error ≡ true → o ≡ none) → Counted x → Sound fs → Holds (contents x) p fs
     → let a = complete o c x in Holds (contents (output-of (a .device))) p (story.story fs (word-event (a .packed) ++ frame-event s c))
 unfolding complete frame-event
-after-holds none s c x p fs alone count sound h = quiet-holds (c .error) (closes s c) x p fs h
+after-holds none s c x p fs alone count sound h = quiet-holds (c .error) (has-closed s c) x p fs h
 after-holds (some v) s c x p fs alone count sound h =
     subst
     (λ (rises : Bool).
     let a = complete (some v) c x in
-    Holds (contents (output-of (a .device))) p (story.story fs (word-event (a .packed) ++ cond rises (story.discarded ∷ []) (cond (closes s c) (story.ended ∷ []) []))))
-    (sym (no-error (c .error) v alone)) (word-holds v (closes s c) c x p fs count sound h)
+    Holds (contents (output-of (a .device))) p (story.story fs (word-event (a .packed) ++ cond rises (story.discarded ∷ []) (cond (has-closed s c) (story.ended ∷ []) []))))
+    (sym (no-error (c .error) v alone)) (word-holds v (has-closed s c) c x p fs count sound h)
   where
     no-error : (rises : Bool) (v : ℕ) → (rises ≡ true → some v ≡ none) → rises ≡ false
     no-error false v e = refl
@@ -126,9 +126,9 @@ sound-landed none fs s = s
 sound-landed (some byte) fs s = sound-landing fs s
 
 -- One sample.
-pub two-step-holds : (x : Two) (w : ℕ) (fs : List Tale) → Tells (kept (x .device) (x .turns)) fs → Holds (contents (output-of (x .device))) (x .buffers) fs
+pub two-step-holds : (x : Two) (w : ℕ) (fs : List Tale) → Tells (kept-of (x .device) (x .turns)) fs → Holds (contents (output-of (x .device))) (x .buffers) fs
     → let r = two-step x w in
-    Holds (contents (output-of (r .after .device))) (r .after .buffers) (story.story fs (sample-events (capture-of (x .device)) w (byte-of (r .landing)) (r .packed)))
+    Holds (contents (output-of (r .after .device))) (r .after .buffers) (story.story fs (sample-events (capture-of (x .device)) w (landing-byte (r .landing)) (r .packed)))
 unfolding two-step step after-grant sample-events counted count-sample with-counts with-place contents
 two-step-holds x w fs t h =
     let d = x .device in
@@ -138,7 +138,7 @@ two-step-holds x w fs t h =
     let g = grant (bus-grant w) (enabled s) y (part u (x .buffers)) in
     let a = complete (capture-sample s w .word) (capture-sample s w) (g .state) in
     let count : length (contents (output-of d)) ≡ d .core .output .held = ap length (h .words) ∙ words-count fs ∙ sym (t .count) in
-    let (landed, count′) = landing-holds (kept d (x .turns)) y (x .buffers) fs (bus-grant w) (enabled s) refl count t h in
+    let (landed, count′) = landing-holds (kept-of d (x .turns)) y (x .buffers) fs (bus-grant w) (enabled s) refl count t h in
     rw (same-byte u (g .landing), story-append fs (landing-event (g .landing)) (word-event (a .packed) ++ frame-event s (capture-sample s w)))
     (after-holds (capture-sample s w .word) s (capture-sample s w) (g .state) (with-part u (g .buffer) (x .buffers)) (story.story fs (landing-event (g .landing)))
     (no-word-in-error s w) count′ (sound-landed (g .landing) fs (t .sound)) landed)
@@ -147,12 +147,12 @@ two-step-holds x w fs t h =
 pub tells-of : {k : Kept} {fs : List Tale} → Explained k fs → Tells k fs
 tells-of x = rw (x .keeps, x .tells) (all-kept start [] (x .since) tells-start)
 
-pub two-steps-hold : (x : Two) (ws : List ℕ) (fs : List Tale) → Explained (kept (x .device) (x .turns)) fs → Holds (contents (output-of (x .device))) (x .buffers) fs
+pub two-steps-hold : (x : Two) (ws : List ℕ) (fs : List Tale) → Explained (kept-of (x .device) (x .turns)) fs → Holds (contents (output-of (x .device))) (x .buffers) fs
     → let y = two-steps x ws in Holds (contents (output-of (y .device))) (y .buffers) (tell-all fs (map on-device (two-samplings x ws)))
 unfolding two-steps two-samplings tell-all tell frame-events
 two-steps-hold x [] fs e h = h
 two-steps-hold x (w ∷ ws) fs e h =
     let r = two-step x w in
     two-steps-hold (r .after) ws _
-    (explained-on (sample-events (capture-of (x .device)) w (byte-of (r .landing)) (r .packed)) e (two-step-kept x w) refl)
+    (explained-on (sample-events (capture-of (x .device)) w (landing-byte (r .landing)) (r .packed)) e (two-step-kept x w) refl)
     (two-step-holds x w fs (tells-of e) h)

@@ -31,7 +31,7 @@ use Rattle.laws.specs.Ledger.{Ledger, sample-entry, landing-entry, word-entry, 
 use Rattle.laws.proofs.KeepsSample.{step-keeps}
 use Rattle.laws.proofs.KeepsWrites.{placed-ok}
 use Rattle.laws.proofs.CountsFromHistory.{step-counted}
-use Rattle.board_rules.specs.State.{kept}
+use Rattle.board_rules.specs.State.{kept-of}
 use Rattle.board_rules.specs.TwoBuffers.{landing-event, word-event, frame-event, sample-events, part, Two, two-step, two-steps}
 use Rattle.board_rules.proofs.WellFormed.{TurnsOk}
 
@@ -87,14 +87,14 @@ sample-held s v o p l k e = rw (in-turn k s v o p) (frame-held s v _ _ (word-hel
 pub two-step-held : (x : Two) (w : ℕ)
     → let d = x .device in
     let r = step (placed (oldest-place (d .core .output .place) (x .turns)) d) (part (oldest-buffer (x .turns)) (x .buffers)) w in
-    two-step x w .after .device .core .output .held ≡ keeps (kept d (x .turns)) (sample-events (capture-of d) w (r .landing) (r .packed)) .held
+    two-step x w .after .device .core .output .held ≡ keeps (kept-of d (x .turns)) (sample-events (capture-of d) w (r .landing) (r .packed)) .held
 unfolding two-step with-place
 two-step-held x w =
     let d = x .device in
     let y = placed (oldest-place (d .core .output .place) (x .turns)) d in
     let b = part (oldest-buffer (x .turns)) (x .buffers) in
     let r = step y b w in
-    sym (sample-held (capture-of d) w (r .landing) (r .packed) (numbers (y .core .output)) (kept d (x .turns)) refl ∙ ap (λ (l : Ledger). l .held) (step-counted y b w))
+    sym (sample-held (capture-of d) w (r .landing) (r .packed) (numbers (y .core .output)) (kept-of d (x .turns)) refl ∙ ap (λ (l : Ledger). l .held) (step-counted y b w))
 
 -- What is kept is within these numbers of words held and landed.
 pub record Fits (held landed : ℕ) (t : Turns) : Type 0 where
@@ -222,7 +222,7 @@ pub two-step-keeps : (x : Two) (w : ℕ) → WellFormed (x .device) → TurnsOk 
 unfolding two-step with-place
 two-step-keeps x w f t =
     let d = x .device in
-    let k = kept d (x .turns) in
+    let k = kept-of d (x .turns) in
     let p = oldest-place (d .core .output .place) (x .turns) in
     let y = placed p d in
     let b = part (oldest-buffer (x .turns)) (x .buffers) in

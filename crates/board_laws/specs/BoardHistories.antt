@@ -51,15 +51,15 @@ pub data Happening : Type 0 where
   mode-set : Happening
 
 -- The samples of a run over two memories.
-abbrev pub byte-of : Option Landing → Option ℕ
-byte-of none = none
-byte-of (some l) = some (l .byte)
+abbrev pub landing-byte : Option Landing → Option ℕ
+landing-byte none = none
+landing-byte (some l) = some (l .byte)
 
 unfoldable pub two-samplings : Two → List ℕ → List device-histories.Event
 two-samplings x [] = []
 two-samplings x (w ∷ ws) =
     let r = two-step x w in
-    device-histories.sampled (capture-of (x .device)) w (byte-of (r .landing)) (r .packed) ∷ two-samplings (r .after) ws
+    device-histories.sampled (capture-of (x .device)) w (landing-byte (r .landing)) (r .packed) ∷ two-samplings (r .after) ws
 
 -- Those of a call. A refused one has none.
 unfoldable pub samplings-of : Board → Call → List device-histories.Event

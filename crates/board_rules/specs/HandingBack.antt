@@ -13,7 +13,7 @@ use Rattle.buffers.specs.Kept.{place-in}
 use Rattle.refusals.specs.Refusals.{_⇒_, first, Answer, refused, answered, answer}
 use Rattle.rules.specs.declared.Device.{Device}
 use Rattle.board_rules.specs.declared.Board.{Board}
-use Rattle.board_rules.specs.State.{is-two, kept, malformed}
+use Rattle.board_rules.specs.State.{is-two, kept-of, malformed}
 use Rattle.board_rules.specs.BoardRuns.{Lent, Both, lent, frame-buffer, turns-of}
 
 -- No frame is complete; or the latest is in a buffer, with so many bytes, four for each of its words, from that memory's start on; or that buffer's memory is too short for so many.
@@ -54,7 +54,7 @@ handed-from u bytes s = cond (ltb (s .length - s .start) bytes) (too-short u byt
 
 unfoldable pub handed-latest : Option Buffer → Device → Turns → Spans → Handed
 handed-latest none d t s = nothing
-handed-latest (some u) d t s = handed-from u (4 * place-in u (kept d t)) (span-of u s)
+handed-latest (some u) d t s = handed-from u (4 * place-in u (kept-of d t)) (span-of u s)
 
 unfoldable pub latest-frame : Board → Spans → Answer Handed
 latest-frame b s =

@@ -16,8 +16,8 @@ is-two One = false
 is-two (Two t) = true
 
 -- What is kept for two buffers, with A's next place and the number of held words, which the device has.
-abbrev pub kept : Device → Turns → Kept
-kept d t = record { turns = t; place-a = d .core .output .place; held = d .core .output .held }
+abbrev pub kept-of : Device → Turns → Kept
+kept-of d t = record { turns = t; place-a = d .core .output .place; held = d .core .output .held }
 
 -- "Malformed now covers both places": B's above landed. An unused FIFO slot not 0, of what a slot says of its word: its buffer, and whether it opens a frame.
 unfoldable pub bad-turns : Output → Turns → Bool

@@ -16,7 +16,7 @@ use Rattle.rules.specs.Capture.{Captured}
 use Rattle.rules.specs.Sample.{capture-sample}
 use Rattle.rules.specs.RegisterCalls.{placed}
 use Rattle.rules.specs.Run.{Packed, nothing, completed, lost, step}
-use Rattle.board_rules.specs.State.{kept}
+use Rattle.board_rules.specs.State.{kept-of}
 
 -- Two frame buffers, or memories; one of them, and with one changed.
 pub record Pair : Type 0 where
@@ -42,11 +42,11 @@ word-event nothing = []
 word-event (completed v) = story.held v ∷ []
 word-event lost = story.lost ∷ []
 
-abbrev pub closes : Capture → Captured → Bool
-closes s c = is-open (s .frame) && not (is-open (c .state .frame))
+abbrev pub has-closed : Capture → Captured → Bool
+has-closed s c = is-open (s .frame) && not (is-open (c .state .frame))
 
 unfoldable pub frame-event : Capture → Captured → List story.Event
-frame-event s c = cond (c .error) (story.discarded ∷ []) (cond (closes s c) (story.ended ∷ []) [])
+frame-event s c = cond (c .error) (story.discarded ∷ []) (cond (has-closed s c) (story.ended ∷ []) [])
 
 unfoldable pub sample-events : Capture → ℕ → Option ℕ → Packed → List story.Event
 sample-events s w landing packed = landing-event landing ++ (word-event packed ++ frame-event s (capture-sample s w))
@@ -78,7 +78,7 @@ two-step x w =
     let d = x .device in
     let u = oldest-buffer (x .turns) in
     let r = step (placed (oldest-place (d .core .output .place) (x .turns)) d) (part u (x .buffers)) w in
-    let k = keeps (kept d (x .turns)) (sample-events (capture-of d) w (r .landing) (r .packed)) in
+    let k = keeps (kept-of d (x .turns)) (sample-events (capture-of d) w (r .landing) (r .packed)) in
     record {
       after = record { device = placed (k .place-a) (r .device); turns = k .turns; buffers = with-part u (r .buffer) (x .buffers) };
       landing = landing-in u (r .landing);

@@ -12,7 +12,7 @@ use Rattle.bits.proofs.Booleans.{and-zero}
 use Rattle.buffers.specs.declared.Buffer.{Buffer}
 use Rattle.buffers.specs.declared.Buffer.the-variants.{A, B}
 use Rattle.buffers.specs.Turns.{other}
-use Rattle.buffers.specs.Story.{Tale, same, frame-in, complete, if-complete, complete-in, latest-in}
+use Rattle.buffers.specs.Story.{Tale, same-buffer, frame-in, complete, if-complete, complete-in, latest-in}
 use Rattle.buffers.proofs.Frames.{Counts, Sound}
 use Rattle.buffers.proofs.Sights.{same-same, same-is}
 
@@ -35,7 +35,7 @@ nothing-there e = let z : _≡_ {A = ℕ} 0 1 = ap (λ (o : Option Tale). by o) 
 pub found-counts : (u : Buffer) (fs : List Tale) (f : Tale) → Sound fs → frame-in u fs ≡ some f → Counts f
 unfolding frame-in
 found-counts u [] f s e = nothing-there e
-found-counts u (g ∷ fs) f s e = go (same u (g .buffer) && ltb 0 (g .landed)) (found-counts u fs f (s .3)) e
+found-counts u (g ∷ fs) f s e = go (same-buffer u (g .buffer) && ltb 0 (g .landed)) (found-counts u fs f (s .3)) e
   where
     go : (b : Bool) → (frame-in u fs ≡ some f → Counts f) → cond b (some g) (frame-in u fs) ≡ some f → Counts f
     go true rest e = subst Counts (there e) (s .0)
@@ -44,9 +44,9 @@ found-counts u (g ∷ fs) f s e = go (same u (g .buffer) && ltb 0 (g .landed)) (
 found-in : (u : Buffer) (fs : List Tale) (f : Tale) → frame-in u fs ≡ some f → u ≡ f .buffer
 unfolding frame-in
 found-in u [] f e = nothing-there e
-found-in u (g ∷ fs) f e = go (same u (g .buffer)) (ltb 0 (g .landed)) refl (found-in u fs f) e
+found-in u (g ∷ fs) f e = go (same-buffer u (g .buffer)) (ltb 0 (g .landed)) refl (found-in u fs f) e
   where
-    go : (b c : Bool) → same u (g .buffer) ≡ b → (frame-in u fs ≡ some f → u ≡ f .buffer) → cond (b && c) (some g) (frame-in u fs) ≡ some f → u ≡ f .buffer
+    go : (b c : Bool) → same-buffer u (g .buffer) ≡ b → (frame-in u fs ≡ some f → u ≡ f .buffer) → cond (b && c) (some g) (frame-in u fs) ≡ some f → u ≡ f .buffer
     go true true q rest e = same-is u (g .buffer) q ∙ ap (λ (h : Tale). h .buffer) (there e)
     go true false q rest e = rest e
     go false c q rest e = rest e
@@ -60,7 +60,7 @@ complete-found (some g) f e = go (complete g) refl e
     go true q e = (e, subst (λ (h : Tale). complete h ≡ true) (there e) q)
     go false q e = nothing-there e
 
-not-other : (u : Buffer) → same (other u) u ≡ false
+not-other : (u : Buffer) → same-buffer (other u) u ≡ false
 not-other A = refl
 not-other B = refl
 
@@ -71,19 +71,19 @@ latest-there (g ∷ fs) f e = go (ltb 0 (g .landed)) (complete g) refl refl (lat
   where
     go : (b c : Bool) → ltb 0 (g .landed) ≡ b → complete g ≡ c → (latest-in fs ≡ some f → (frame-in (f .buffer) fs ≡ some f) × (complete f ≡ true))
         → cond b (cond c (some g) (complete-in (other (g .buffer)) fs)) (latest-in fs) ≡ some f
-        → (cond (same (f .buffer) (g .buffer) && b) (some g) (frame-in (f .buffer) fs) ≡ some f) × (complete f ≡ true)
+        → (cond (same-buffer (f .buffer) (g .buffer) && b) (some g) (frame-in (f .buffer) fs) ≡ some f) × (complete f ≡ true)
     go true true l q rest e =
         let is = there e in (
-          subst (λ (u : Buffer). cond (same u (g .buffer) && true) (some g) (frame-in u fs) ≡ some f) (ap (λ (h : Tale). h .buffer) is) (rw (same-same (g .buffer)) e),
+          subst (λ (u : Buffer). cond (same-buffer u (g .buffer) && true) (some g) (frame-in u fs) ≡ some f) (ap (λ (h : Tale). h .buffer) is) (rw (same-same (g .buffer)) e),
           subst (λ (h : Tale). complete h ≡ true) is q,
         )
     go true false l q rest e =
         let (here, done) = complete-found (frame-in (other (g .buffer)) fs) f e in
         let is = found-in (other (g .buffer)) fs f here in
-        (subst (λ (u : Buffer). cond (same u (g .buffer) && true) (some g) (frame-in u fs) ≡ some f) is (rw (not-other (g .buffer)) here), done)
-    go false c l q rest e = let (here, done) = rest e in (rw (and-zero (same (f .buffer) (g .buffer))) here, done)
+        (subst (λ (u : Buffer). cond (same-buffer u (g .buffer) && true) (some g) (frame-in u fs) ≡ some f) is (rw (not-other (g .buffer)) here), done)
+    go false c l q rest e = let (here, done) = rest e in (rw (and-zero (same-buffer (f .buffer) (g .buffer))) here, done)
 
-is-other : (u v : Buffer) → same u v ≡ false → u ≡ other v
+is-other : (u v : Buffer) → same-buffer u v ≡ false → u ≡ other v
 is-other A A z = absurd (true≢false z)
 is-other A B z = refl
 is-other B A z = refl
@@ -92,9 +92,9 @@ is-other B B z = absurd (true≢false z)
 pub one-is-latest : (u : Buffer) (fs : List Tale) (f : Tale) → complete-in u fs ≡ some f → latest-in fs ≡ none → ⊥
 unfolding latest-in complete-in frame-in if-complete
 one-is-latest u [] f e n = nothing-there e
-one-is-latest u (g ∷ fs) f e n = go (same u (g .buffer)) (ltb 0 (g .landed)) (complete g) refl refl (one-is-latest u fs f) e n
+one-is-latest u (g ∷ fs) f e n = go (same-buffer u (g .buffer)) (ltb 0 (g .landed)) (complete g) refl refl (one-is-latest u fs f) e n
   where
-    go : (a b c : Bool) → same u (g .buffer) ≡ a → complete g ≡ c → (complete-in u fs ≡ some f → latest-in fs ≡ none → ⊥)
+    go : (a b c : Bool) → same-buffer u (g .buffer) ≡ a → complete g ≡ c → (complete-in u fs ≡ some f → latest-in fs ≡ none → ⊥)
         → if-complete (cond (a && b) (some g) (frame-in u fs)) ≡ some f → cond b (cond c (some g) (complete-in (other (g .buffer)) fs)) (latest-in fs) ≡ none → ⊥
     go a true true s q rest e n = nothing-there (sym n)
     go true true false s q rest e n = nothing-there (sym (ap (λ b. cond b (some g) none) q) ∙ e)

@@ -11,7 +11,7 @@ use borrow.Author.Tests.{ltb-true}
 use Rattle.bits.proofs.Booleans.{or-false, and-true, by-cond, either}
 use Rattle.buffers.specs.declared.Buffer.the-variants.{A}
 use Rattle.buffers.specs.Turns.{other}
-use Rattle.buffers.specs.Story.{Tale, completed, running, waiting, any-waiting, last-buffer, first-of, one-more, word-of, one-landed, landing-of, end-of, closed-otherwise, armed-anew}
+use Rattle.buffers.specs.Story.{Tale, completed, running, waiting, any-waiting, last-buffer, first-of, one-more, word-of, one-landed, landing-of, ending-of, closed-otherwise, armed-anew}
 
 -- Whether the newest frame is the open one.
 abbrev pub any-open : List Tale → Bool
@@ -109,19 +109,19 @@ last-word vs (f ∷ fs) = go (running f)
     go false = refl
 
 -- The end by rule 4.
-pub sound-end : (fs : List Tale) → Sound fs → Sound (end-of fs)
-unfolding end-of
+pub sound-end : (fs : List Tale) → Sound fs → Sound (ending-of fs)
+unfolding ending-of
 sound-end [] s = tt
 sound-end (f ∷ fs) s =
     by-cond Sound (running f) _ _ (λ e. let c = s .0 in (record { recent = c .recent; part = c .part; filled = c .filled }, s .1, s .2, s .3)) (λ e. s)
 
-pub last-end : (fs : List Tale) → last-buffer (end-of fs) ≡ last-buffer fs
-unfolding end-of
+pub last-end : (fs : List Tale) → last-buffer (ending-of fs) ≡ last-buffer fs
+unfolding ending-of
 last-end [] = refl
 last-end (f ∷ fs) = either (λ (l : List Tale). last-buffer l ≡ f .buffer) (running f) refl refl
 
-pub open-end : (fs : List Tale) → any-open (end-of fs) ≡ false
-unfolding end-of
+pub open-end : (fs : List Tale) → any-open (ending-of fs) ≡ false
+unfolding ending-of
 open-end [] = refl
 open-end (f ∷ fs) = by-cond (λ (l : List Tale). any-open l ≡ false) (running f) _ _ (λ e. refl) (λ e. e)
 

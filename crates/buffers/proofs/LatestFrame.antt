@@ -19,7 +19,7 @@ use Rattle.buffers.specs.declared.Content.the-variants.{Nothing, Landing
 use Rattle.buffers.specs.declared.Turns.{Turns}
 use Rattle.buffers.specs.Turns as rules
 use Rattle.buffers.specs.Turns.{other, is-b, fresh-turns, with-turn, with-tags, with-place-b, with-latest, with-content, content, first-word, word-held, word-lost, oldest-buffer, oldest-opens, oldest-place, is-landing, frame-over, last-of-frame, word-landed, frame-ended, is-complete, latest-complete}
-use Rattle.buffers.specs.Story.{Event, held, lost, landed, ended, discarded, rearmed, Tale, completed, waiting, any-waiting, last-buffer, running, word-of, landing-of, one-landed, end-of, closed-otherwise, armed-anew, tell, story, same, frame-in, complete, if-complete, complete-in, latest-in, which}
+use Rattle.buffers.specs.Story.{Event, held, lost, landed, ended, discarded, rearmed, Tale, completed, waiting, any-waiting, last-buffer, running, word-of, landing-of, one-landed, ending-of, closed-otherwise, armed-anew, tell, story, same-buffer, frame-in, complete, if-complete, complete-in, latest-in, which}
 use Rattle.buffers.specs.Kept.{Kept, start, landed-at, keep, keeps}
 use Rattle.buffers.proofs.Frames.{any-open, Counts, Sound, eldest, eldest-waits, eldest-counts, none-lands}
 use Rattle.buffers.proofs.Tags.{Tag, in-b, opening, weigh-first, tag-of, queue, queue-landing, over, is-open, queue-over}
@@ -41,8 +41,8 @@ unfolding newest
 newest-closed [] = refl
 newest-closed (f ∷ fs) = ap (λ u. cond (ltb 0 (f .landed)) (f .buffer) u) (newest-closed fs)
 
-newest-end : (fs : List Tale) → newest (end-of fs) ≡ newest fs
-unfolding newest end-of
+newest-end : (fs : List Tale) → newest (ending-of fs) ≡ newest fs
+unfolding newest ending-of
 newest-end [] = refl
 newest-end (f ∷ fs) = either (λ (l : List Tale). newest l ≡ newest (f ∷ fs)) (running f) refl refl
 
@@ -84,13 +84,13 @@ knows u fs = is-complete (sight-in u fs .content)
 buffer-reads : (u : Buffer) (fs : List Tale) → Sound fs → which (complete-in u fs) ≡ cond (knows u fs) (some u) none
 unfolding complete-in frame-in if-complete which
 buffer-reads u [] s = refl
-buffer-reads u (f ∷ fs) s = go (same u (f .buffer)) (ltb 0 (f .landed)) refl (buffer-reads u fs (s .3))
+buffer-reads u (f ∷ fs) s = go (same-buffer u (f .buffer)) (ltb 0 (f .landed)) refl (buffer-reads u fs (s .3))
   where
     known : (b : Bool) → which (cond b (some f) none) ≡ cond b (some (f .buffer)) none
     known true = refl
     known false = refl
 
-    go : (b c : Bool) → same u (f .buffer) ≡ b → which (if-complete (frame-in u fs)) ≡ cond (knows u fs) (some u) none
+    go : (b c : Bool) → same-buffer u (f .buffer) ≡ b → which (if-complete (frame-in u fs)) ≡ cond (knows u fs) (some u) none
         → let o = cond (b && c) (some f) (frame-in u fs) in
         which (if-complete o) ≡ cond (is-complete (sight-of o .content)) (some u) none
     go true true e rest = rw (complete-sight f (s .0), same-is u (f .buffer) e) (known (complete f))
@@ -110,7 +110,7 @@ latest-reads (f ∷ fs) s = go (ltb 0 (f .landed)) refl (latest-reads fs (s .3))
     known true = unfold which in refl
     known false = refl
 
-    not-other : (u : Buffer) → same (other u) u ≡ false
+    not-other : (u : Buffer) → same-buffer (other u) u ≡ false
     not-other A = refl
     not-other B = refl
 
@@ -198,27 +198,27 @@ leads-over true Complete l w lead e = lead refl
 leads-over false c l w lead e = lead e
 
 -- The end by rule 4.
-leads-ended : (l : Buffer) (fs : List Tale) → Sound fs → Leads l fs → Leads (keep (told l fs) ended .turns .latest) (end-of fs)
+leads-ended : (l : Buffer) (fs : List Tale) → Sound fs → Leads l fs → Leads (keep (told l fs) ended .turns .latest) (ending-of fs)
 unfolding keep frame-ended with-turn
 leads-ended l fs s lead = go (any-open fs) (any-waiting fs) refl refl
   where
     t : Turns
     t = told l fs .turns
 
-    by : (x : Turns) → cond (any-open fs) (cond (ltb 0 (length (queue fs))) t (frame-over (last-buffer fs) t)) t ≡ x → Leads (x .latest) (end-of fs)
-        → Leads (keep (told l fs) ended .turns .latest) (end-of fs)
-    by x e leads = subst (λ (x : Turns). Leads (x .latest) (end-of fs)) (sym e) leads
+    by : (x : Turns) → cond (any-open fs) (cond (ltb 0 (length (queue fs))) t (frame-over (last-buffer fs) t)) t ≡ x → Leads (x .latest) (ending-of fs)
+        → Leads (keep (told l fs) ended .turns .latest) (ending-of fs)
+    by x e leads = subst (λ (x : Turns). Leads (x .latest) (ending-of fs)) (sym e) leads
 
-    over : any-open fs ≡ true → any-waiting fs ≡ false → Leads (frame-over (last-buffer fs) t .latest) (end-of fs)
+    over : any-open fs ≡ true → any-waiting fs ≡ false → Leads (frame-over (last-buffer fs) t .latest) (ending-of fs)
     over e w =
         let u = last-buffer fs in
         let n : newest fs ≡ u = newest-open fs s e w in
         rw (newest-end fs, n, sight-end-over u fs s e w, same-same u, over-latest u t, told-content u (queue fs) l fs)
         (leads-over true (sight-in u fs .content) l u (rw n at lead))
 
-    go : (b c : Bool) → any-open fs ≡ b → any-waiting fs ≡ c → Leads (keep (told l fs) ended .turns .latest) (end-of fs)
+    go : (b c : Bool) → any-open fs ≡ b → any-waiting fs ≡ c → Leads (keep (told l fs) ended .turns .latest) (ending-of fs)
     go true true e w =
-        by t (choice (any-open fs) _ t _ e (held-waiting fs true w)) (leads-on l fs (end-of fs) (newest-end fs) (λ u. sight-end-held u fs s w) lead)
+        by t (choice (any-open fs) _ t _ e (held-waiting fs true w)) (leads-on l fs (ending-of fs) (newest-end fs) (λ u. sight-end-held u fs s w) lead)
     go true false e w = by (frame-over (last-buffer fs) t) (choice (any-open fs) _ t _ e (held-waiting fs false w)) (over e w)
     go false c e w =
         by t (choice (any-open fs) _ t (frame-over (last-buffer fs) t) e (held-waiting fs c w)) (subst (Leads l) (sym (end-none fs e)) lead)

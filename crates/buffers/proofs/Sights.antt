@@ -14,7 +14,7 @@ use Rattle.buffers.specs.declared.Buffer.the-variants.{A, B}
 use Rattle.buffers.specs.declared.Content.{Content}
 use Rattle.buffers.specs.declared.Content.the-variants.{Nothing, Landing, Complete}
 use Rattle.buffers.specs.Turns.{other, is-landing, is-complete}
-use Rattle.buffers.specs.Story.{Tale, completed, running, waiting, any-waiting, last-buffer, first-of, one-more, word-of, one-landed, landing-of, by-rule-4, end-of, closed-otherwise, armed-anew, same, frame-in, complete, if-complete, word-count}
+use Rattle.buffers.specs.Story.{Tale, completed, running, waiting, any-waiting, last-buffer, first-of, one-more, word-of, one-landed, landing-of, by-rule-4, ending-of, closed-otherwise, armed-anew, same-buffer, frame-in, complete, if-complete, word-count}
 use Rattle.buffers.proofs.Frames.{any-open, Sound, eldest, eldest-waits, eldest-counts}
 use Rattle.buffers.proofs.Tags.{over, is-open}
 
@@ -37,12 +37,12 @@ abbrev pub sight-in : Buffer → List Tale → Sight
 sight-in u fs = sight-of (frame-in u fs)
 
 abbrev is-in : Buffer → Tale → Bool
-is-in u f = same u (f .buffer) && ltb 0 (f .landed)
+is-in u f = same-buffer u (f .buffer) && ltb 0 (f .landed)
 
 -- A frame of which no word has landed is in no buffer.
 pub skip : (u : Buffer) (f : Tale) (fs : List Tale) → f .landed ≡ 0 → frame-in u (f ∷ fs) ≡ frame-in u fs
 unfolding frame-in
-skip u f fs z = rw (le-ltb 0 (f .landed) (omega arith), and-zero (same u (f .buffer)))
+skip u f fs z = rw (le-ltb 0 (f .landed) (omega arith), and-zero (same-buffer u (f .buffer)))
 
 -- A word changes nothing: the frame that has one more is open.
 pub sight-word : (u : Buffer) (vs : List ℕ) (fs : List Tale) → sight-in u (word-of vs fs) ≡ sight-in u fs
@@ -72,7 +72,7 @@ unfolding frame-in
 sight-armed u [] = refl
 sight-armed u (f ∷ fs) =
     by-cond (λ (o : Option Tale). sight-of o ≡ record { content = Nothing; place = 0 }) (is-in u f) (some (armed-anew f)) (frame-in u (map armed-anew fs))
-    (λ e. rw (ne-eqb 0 (f .landed) (λ z. omega (arith, ltb-true 0 (f .landed) (and-true (same u (f .buffer)) (ltb 0 (f .landed)) e .1)))))
+    (λ e. rw (ne-eqb 0 (f .landed) (λ z. omega (arith, ltb-true 0 (f .landed) (and-true (same-buffer u (f .buffer)) (ltb 0 (f .landed)) e .1)))))
     (λ e. sight-armed u fs)
 
 -- The end by rule 4: where no frame is open; where words are held, of the open frame then; and where none is.
@@ -82,8 +82,8 @@ ended-content c = cond (is-landing c) Complete c
 abbrev pub ended-sight : Sight → Sight
 ended-sight s = record { content = ended-content (s .content); place = s .place }
 
-pub end-none : (fs : List Tale) → any-open fs ≡ false → end-of fs ≡ fs
-unfolding end-of
+pub end-none : (fs : List Tale) → any-open fs ≡ false → ending-of fs ≡ fs
+unfolding ending-of
 end-none [] e = refl
 end-none (f ∷ fs) e = rw e
 
@@ -96,8 +96,8 @@ open-waits f fs s e w = go (ltb (f .landed) (completed f)) (any-waiting fs) refl
     go false true l v w = omega (arith, s .1 v, s .0 .filled (is-open f e .1))
     go false false l v w = absurd (false≢true (rw (l, v, and-zero (not (f .gone))) at w))
 
-pub sight-end-held : (u : Buffer) (fs : List Tale) → Sound fs → any-waiting fs ≡ true → sight-in u (end-of fs) ≡ sight-in u fs
-unfolding frame-in end-of
+pub sight-end-held : (u : Buffer) (fs : List Tale) → Sound fs → any-waiting fs ≡ true → sight-in u (ending-of fs) ≡ sight-in u fs
+unfolding frame-in ending-of
 sight-end-held u [] s w = refl
 sight-end-held u (f ∷ fs) s w =
     by-cond (λ (l : List Tale). sight-in u l ≡ sight-in u (f ∷ fs)) (running f) _ _ (λ e. go (is-in u f) (open-waits f fs s e w)) (λ e. refl)
@@ -114,10 +114,10 @@ open-landed f fs s e w =
     omega (arith, ltb-false (f .landed) (completed f) (rw (is-open f e .1) at less))
 
 pub sight-end-over : (u : Buffer) (fs : List Tale) → Sound fs → any-open fs ≡ true → any-waiting fs ≡ false
-    → sight-in u (end-of fs) ≡ cond (same u (last-buffer fs)) (ended-sight (sight-in u fs)) (sight-in u fs)
-unfolding frame-in end-of any-waiting
+    → sight-in u (ending-of fs) ≡ cond (same-buffer u (last-buffer fs)) (ended-sight (sight-in u fs)) (sight-in u fs)
+unfolding frame-in ending-of any-waiting
 sight-end-over u [] s e w = absurd (false≢true e)
-sight-end-over u (f ∷ fs) s e w = rw e (go (same u (f .buffer)) (eqb (f .since) (f .landed)))
+sight-end-over u (f ∷ fs) s e w = rw e (go (same-buffer u (f .buffer)) (eqb (f .since) (f .landed)))
   where
     all : f .landed ≡ completed f
     all = open-landed f fs s e w
@@ -133,7 +133,7 @@ sight-end-over u (f ∷ fs) s e w = rw e (go (same u (f .buffer)) (eqb (f .since
 
 -- A landing: the oldest frame that waits is then the one in its buffer, and was so before if a word of it had landed.
 pub frame-landing : (u : Buffer) (fs : List Tale) → Sound fs → any-waiting fs ≡ true
-    → frame-in u (landing-of fs) ≡ cond (same u (eldest fs .buffer)) (some (one-landed (eldest fs))) (frame-in u fs)
+    → frame-in u (landing-of fs) ≡ cond (same-buffer u (eldest fs .buffer)) (some (one-landed (eldest fs))) (frame-in u fs)
 unfolding frame-in landing-of any-waiting eldest
 frame-landing u [] s e = absurd (false≢true e)
 frame-landing u (f ∷ fs) s e = go (any-waiting fs) (waiting f) refl (frame-landing u fs (s .3)) e
@@ -144,18 +144,18 @@ frame-landing u (f ∷ fs) s e = go (any-waiting fs) (waiting f) refl (frame-lan
     by false = refl
 
     go : (b c : Bool) → any-waiting fs ≡ b
-        → (any-waiting fs ≡ true → frame-in u (landing-of fs) ≡ cond (same u (eldest fs .buffer)) (some (one-landed (eldest fs))) (frame-in u fs)) → c || b ≡ true
+        → (any-waiting fs ≡ true → frame-in u (landing-of fs) ≡ cond (same-buffer u (eldest fs .buffer)) (some (one-landed (eldest fs))) (frame-in u fs)) → c || b ≡ true
         → frame-in u (cond b (f ∷ landing-of fs) (cond c (one-landed f ∷ fs) (f ∷ fs)))
-        ≡ cond (same u (cond b (eldest fs) f .buffer)) (some (one-landed (cond b (eldest fs) f))) (frame-in u (f ∷ fs))
+        ≡ cond (same-buffer u (cond b (eldest fs) f .buffer)) (some (one-landed (cond b (eldest fs) f))) (frame-in u (f ∷ fs))
     go true c w rest e = rw (skip u f (landing-of fs) (s .1 w), skip u f fs (s .1 w)) (rest w)
-    go false true w rest e = by (same u (f .buffer))
+    go false true w rest e = by (same-buffer u (f .buffer))
     go false false w rest e = absurd (false≢true e)
 
-pub same-same : (u : Buffer) → same u u ≡ true
+pub same-same : (u : Buffer) → same-buffer u u ≡ true
 same-same A = refl
 same-same B = refl
 
-pub same-is : (u v : Buffer) → same u v ≡ true → u ≡ v
+pub same-is : (u v : Buffer) → same-buffer u v ≡ true → u ≡ v
 same-is A A e = refl
 same-is A B e = absurd (false≢true e)
 same-is B A e = absurd (false≢true e)
@@ -200,10 +200,10 @@ one-landed-sight s n m e x le less before = go (eqb n 0) refl (e && eqb (n + 1) 
     go false z c = rw (before z, ne-eqb n m (λ q. omega arith), and-zero e) (by (eqb s n) c refl)
 
 pub sight-landing : (u : Buffer) (fs : List Tale) → Sound fs → any-waiting fs ≡ true
-    → let g = eldest fs in sight-in u (landing-of fs) ≡ cond (same u (g .buffer)) (landed-sight (eqb (g .landed) 0) (over g) (sight-in u fs)) (sight-in u fs)
-sight-landing u fs s w = ap sight-of (frame-landing u fs s w) ∙ go (same u (eldest fs .buffer)) refl
+    → let g = eldest fs in sight-in u (landing-of fs) ≡ cond (same-buffer u (g .buffer)) (landed-sight (eqb (g .landed) 0) (over g) (sight-in u fs)) (sight-in u fs)
+sight-landing u fs s w = ap sight-of (frame-landing u fs s w) ∙ go (same-buffer u (eldest fs .buffer)) refl
   where
-    go : (b : Bool) → same u (eldest fs .buffer) ≡ b
+    go : (b : Bool) → same-buffer u (eldest fs .buffer) ≡ b
         → sight-of (cond b (some (one-landed (eldest fs))) (frame-in u fs)) ≡ cond b (landed-sight (eqb (eldest fs .landed) 0) (over (eldest fs)) (sight-in u fs)) (sight-in u fs)
     go true e =
         let g = eldest fs in

@@ -12,7 +12,7 @@ use Rattle.bits.specs.Bits.{bit}
 use Rattle.bits.proofs.Booleans.{or-false, and-true, either, and-zero}
 use Rattle.buffers.specs.declared.Buffer.{Buffer}
 use Rattle.buffers.specs.Turns.{is-b}
-use Rattle.buffers.specs.Story.{Tale, completed, running, waiting, any-waiting, last-buffer, one-more, word-of, one-landed, landing-of, end-of, armed-anew}
+use Rattle.buffers.specs.Story.{Tale, completed, running, waiting, any-waiting, last-buffer, one-more, word-of, one-landed, landing-of, ending-of, armed-anew}
 use Rattle.buffers.proofs.Frames.{any-open, Counts, Sound, eldest, more-words}
 
 pub record Tag : Type 0 where
@@ -203,8 +203,8 @@ queue-over (f ∷ fs) s e = go (any-waiting fs) (waiting f) refl refl (queue-ove
     go false false w v rest e = absurd (false≢true e)
 
 -- Other events.
-pub queue-end : (fs : List Tale) → queue (end-of fs) ≡ queue fs
-unfolding queue end-of
+pub queue-end : (fs : List Tale) → queue (ending-of fs) ≡ queue fs
+unfolding queue ending-of
 queue-end [] = refl
 queue-end (f ∷ fs) = either (λ (l : List Tale). queue l ≡ queue (f ∷ fs)) (running f) refl refl
 

@@ -18,7 +18,7 @@ use Rattle.buffers.specs.declared.Content.the-variants.{Nothing, Landing
 use Rattle.buffers.specs.declared.Turns.{Turns}
 use Rattle.buffers.specs.Turns as rules
 use Rattle.buffers.specs.Turns.{other, is-b, fresh-turns, with-turn, with-tags, with-place-b, with-latest, with-content, content, first-word, word-held, word-lost, oldest-buffer, oldest-opens, next-place, oldest-place, frame-over, last-of-frame, word-landed, frame-ended, is-complete}
-use Rattle.buffers.specs.Story.{Event, held, lost, landed, ended, discarded, rearmed, Tale, any-waiting, last-buffer, word-of, landing-of, end-of, closed-otherwise, armed-anew, tell, story, same, frame-in, complete-in, word-count}
+use Rattle.buffers.specs.Story.{Event, held, lost, landed, ended, discarded, rearmed, Tale, any-waiting, last-buffer, word-of, landing-of, ending-of, closed-otherwise, armed-anew, tell, story, same-buffer, frame-in, complete-in, word-count}
 use Rattle.buffers.specs.Kept.{Kept, start, landed-at, keep, keeps, place-in, complete-of}
 use Rattle.buffers.proofs.Frames.{any-open, Sound, eldest, none-lands, open-landing, last-landing, sound-landing, sound-word, open-word, last-word, last-end, sound-end, open-end, open-closed, waiting-closed, last-closed, sound-closed, sound-lost, open-armed, last-armed, sound-armed}
 use Rattle.buffers.proofs.Tags.{Tag, in-b, opening, weigh, weigh-append, weigh-rest, weigh-first, tag-of, queue, queue-none, queue-word, queue-landing, next-opens, over, queue-over, queue-end, queue-armed}
@@ -202,20 +202,20 @@ held-waiting fs false w = rw (queue-none fs w)
 
 side-a : (w : Buffer) (t : Turns) (p : ℕ)
     → let x : Sight = record { content = t .a; place = p } in
-    _≡_ {A = Sight} (record { content = cond (is-b w) (t .a) (ended-content (content w t)); place = p }) (cond (same A w) (ended-sight x) x)
+    _≡_ {A = Sight} (record { content = cond (is-b w) (t .a) (ended-content (content w t)); place = p }) (cond (same-buffer A w) (ended-sight x) x)
 side-a A t p = refl
 side-a B t p = refl
 
 side-b : (w : Buffer) (t : Turns) (p : ℕ)
     → let y : Sight = record { content = t .b; place = p } in
-    _≡_ {A = Sight} (record { content = cond (is-b w) (ended-content (content w t)) (t .b); place = p }) (cond (same B w) (ended-sight y) y)
+    _≡_ {A = Sight} (record { content = cond (is-b w) (ended-content (content w t)) (t .b); place = p }) (cond (same-buffer B w) (ended-sight y) y)
 side-b A t p = refl
 side-b B t p = refl
 
 pub choice : (b c : Bool) {b′ c′ : Bool} (x y : Turns) → b ≡ b′ → c ≡ c′ → cond b (cond c x y) x ≡ cond b′ (cond c′ x y) x
 choice b c x y e f = rw (e, f)
 
-kept-ended : (l : Buffer) (fs : List Tale) → Sound fs → Tells (keep (told l fs) ended) (end-of fs)
+kept-ended : (l : Buffer) (fs : List Tale) → Sound fs → Tells (keep (told l fs) ended) (ending-of fs)
 unfolding keep frame-ended with-turn with-latest
 kept-ended l fs s = go (any-open fs) (any-waiting fs) refl refl
   where
@@ -226,9 +226,9 @@ kept-ended l fs s = go (any-open fs) (any-waiting fs) refl refl
     with-turns x = record { turns = with-turn (last-buffer fs) false x; place-a = sight-in A fs .place; held = length (queue fs) }
 
     ended-as : (x : Turns) → cond (any-open fs) (cond (ltb 0 (length (queue fs))) t (frame-over (last-buffer fs) t)) t ≡ x → x .«in_b» ≡ t .«in_b» → x .opening ≡ t .opening
-        → seen A (with-turns x) ≡ sight-in A (end-of fs) → seen B (with-turns x) ≡ sight-in B (end-of fs) → Tells (keep (told l fs) ended) (end-of fs)
+        → seen A (with-turns x) ≡ sight-in A (ending-of fs) → seen B (with-turns x) ≡ sight-in B (ending-of fs) → Tells (keep (told l fs) ended) (ending-of fs)
     ended-as x e b o p q =
-        subst (λ (x : Turns). Tells (with-turns x) (end-of fs)) {x = x} {y = cond (any-open fs) (cond (ltb 0 (length (queue fs))) t (frame-over (last-buffer fs) t)) t} (sym e)
+        subst (λ (x : Turns). Tells (with-turns x) (ending-of fs)) {x = x} {y = cond (any-open fs) (cond (ltb 0 (length (queue fs))) t (frame-over (last-buffer fs) t)) t} (sym e)
         (record {
           last = sym (last-end fs);
           running = sym (open-end fs);
@@ -240,7 +240,7 @@ kept-ended l fs s = go (any-open fs) (any-waiting fs) refl refl
           sound = sound-end fs s;
         })
 
-    go : (b c : Bool) → any-open fs ≡ b → any-waiting fs ≡ c → Tells (keep (told l fs) ended) (end-of fs)
+    go : (b c : Bool) → any-open fs ≡ b → any-waiting fs ≡ c → Tells (keep (told l fs) ended) (ending-of fs)
     go true true e w =
         ended-as t (choice (any-open fs) _ t _ e (held-waiting fs true w)) refl refl (sym (sight-end-held A fs s w)) (sym (sight-end-held B fs s w))
     go true false e w =
@@ -305,7 +305,7 @@ lands-a : (u : Buffer) (o v : Bool) (k : Kept)
       content = cond (is-b u) (k .turns .a) (last-content v (landed-content o (content u (k .turns))));
       place = cond (is-b u) (k .place-a) (cond o 0 (next-place (k .place-a) u (k .turns)) + 1);
     })
-    (cond (same A u) (landed-sight o v (seen A k)) (seen A k))
+    (cond (same-buffer A u) (landed-sight o v (seen A k)) (seen A k))
 lands-a A o v k = refl
 lands-a B o v k = refl
 
@@ -315,7 +315,7 @@ lands-b : (u : Buffer) (o v : Bool) (k : Kept)
       content = cond (is-b u) (last-content v (landed-content o (content u (k .turns)))) (k .turns .b);
       place = cond (is-b u) (cond o 0 (next-place (k .place-a) u (k .turns)) + 1) (k .turns .place);
     })
-    (cond (same B u) (landed-sight o v (seen B k)) (seen B k))
+    (cond (same-buffer B u) (landed-sight o v (seen B k)) (seen B k))
 lands-b A o v k = refl
 lands-b B o v k = refl
 

@@ -12,7 +12,7 @@ use lib.Seq.{drop-cons, drop-append-le}
 use borrow.Author.Tests.{ltb-true, ltb-false, not-true}
 use Rattle.bits.proofs.Booleans.{or-false, and-true, either}
 use Rattle.buffers.specs.Turns.{other}
-use Rattle.buffers.specs.Story.{Tale, completed, running, waiting, any-waiting, first-of, one-more, word-of, one-landed, landing-of, end-of, closed-otherwise, armed-anew}
+use Rattle.buffers.specs.Story.{Tale, completed, running, waiting, any-waiting, first-of, one-more, word-of, one-landed, landing-of, ending-of, closed-otherwise, armed-anew}
 use Rattle.buffers.proofs.Frames.{Sound, eldest, waiting-closed}
 use Rattle.buffers.proofs.Tags.{more-length, tags, queue, is-open}
 
@@ -81,8 +81,8 @@ words-landing (f ∷ fs) e = go (any-waiting fs) (waiting f) refl refl (words-la
 pub words-closed : (fs : List Tale) → held-words (map closed-otherwise fs) ≡ []
 words-closed fs = words-none (map closed-otherwise fs) (waiting-closed fs)
 
-pub words-end : (fs : List Tale) → held-words (end-of fs) ≡ held-words fs
-unfolding held-words end-of
+pub words-end : (fs : List Tale) → held-words (ending-of fs) ≡ held-words fs
+unfolding held-words ending-of
 words-end [] = refl
 words-end (f ∷ fs) = either (λ (l : List Tale). held-words l ≡ held-words (f ∷ fs)) (running f) refl refl
 

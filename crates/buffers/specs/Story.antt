@@ -70,9 +70,9 @@ landing-of (f ∷ fs) = cond (any-waiting fs) (f ∷ landing-of fs) (cond (waiti
 abbrev pub by-rule-4 : Tale → Tale
 by-rule-4 f = record { buffer = f .buffer; words = f .words; landed = f .landed; since = f .since; ended = true; gone = f .gone }
 
-unfoldable pub end-of : List Tale → List Tale
-end-of [] = []
-end-of (f ∷ fs) = cond (running f) (by-rule-4 f ∷ fs) (f ∷ fs)
+unfoldable pub ending-of : List Tale → List Tale
+ending-of [] = []
+ending-of (f ∷ fs) = cond (running f) (by-rule-4 f ∷ fs) (f ∷ fs)
 
 -- Held words are discarded, and the open frame is closed.
 abbrev pub closed-otherwise : Tale → Tale
@@ -86,7 +86,7 @@ unfoldable pub tell : List Tale → Event → List Tale
 tell fs (held v) = word-of (v ∷ []) fs
 tell fs lost = map closed-otherwise (word-of [] fs)
 tell fs landed = landing-of fs
-tell fs ended = end-of fs
+tell fs ended = ending-of fs
 tell fs discarded = map closed-otherwise fs
 tell fs rearmed = map armed-anew fs
 
@@ -95,15 +95,15 @@ story fs [] = fs
 story fs (e ∷ es) = story (tell fs e) es
 
 -- The frame in a buffer: the newest of it of which a word has landed. "Ceases to be when another frame's first word lands there."
-abbrev pub same : Buffer → Buffer → Bool
-same A A = true
-same A B = false
-same B A = false
-same B B = true
+abbrev pub same-buffer : Buffer → Buffer → Bool
+same-buffer A A = true
+same-buffer A B = false
+same-buffer B A = false
+same-buffer B B = true
 
 unfoldable pub frame-in : Buffer → List Tale → Option Tale
 frame-in u [] = none
-frame-in u (f ∷ fs) = cond (same u (f .buffer) && ltb 0 (f .landed)) (some f) (frame-in u fs)
+frame-in u (f ∷ fs) = cond (same-buffer u (f .buffer) && ltb 0 (f .landed)) (some f) (frame-in u fs)
 
 -- "A buffer's frame is complete when it ended by rule 4 and all its words, at least one, have landed since the last re-arming": the frame in a buffer, if it is complete.
 abbrev pub complete : Tale → Bool

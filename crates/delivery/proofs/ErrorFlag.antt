@@ -17,7 +17,7 @@ use Rattle.laws.proofs.Flags.{error-by-rules}
 use Rattle.board_rules.specs.declared.Board.{Board}
 use Rattle.board_rules.specs.TwoBuffers.{two-step}
 use Rattle.board_rules.specs.BoardCalls.{fresh-of}
-use Rattle.delivery.specs.Calls.{boards, Starts, one-memory, two-memories, Call, starts-of, System, accepted, after-call, samples, says, stepped, Moment, moment, inside, moments}
+use Rattle.delivery.specs.Calls.{boards, Starts, one-memory, two-memories, Call, starts-of, System, accepted, after-call, samples, says, stepped, Moment, moment, moments-inside, moments}
 use Rattle.delivery.specs.Noted.{Configured, any-error}
 use Rattle.delivery.specs.Delivery.{Scenario, set-up, trace, configured, start-bytes, Provided, Premises, All, unsampled, all-moments}
 use Rattle.delivery.proofs.Alls.{all-append, all-last, all-map}
@@ -128,7 +128,7 @@ module _ (f : Moment → Bool) (g : ℕ → Bool) where
   unfolding samples moments
   last-passes s n [] some so e = absurd (omega arith)
   last-passes s n (c ∷ cs) some so e =
-      let ms = inside (starts-of c) s n (accepted s c) in
+      let ms = moments-inside (starts-of c) s n (accepted s c) in
       let (here, later) = all-last By-count ms (m′ ∷ rest) so in
       some-append ms (m′ ∷ rest) (go (samples (after-call s c) cs) here (λ some e. last-passes (after-call s c) n′ cs some later e) e)
     where

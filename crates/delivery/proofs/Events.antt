@@ -8,7 +8,7 @@ use Rattle.buffers.specs.Story.{Event, ended}
 use Rattle.buffers.specs.Kept.{Kept, keep, keeps}
 use Rattle.rules.specs.declared.Capture.{Capture}
 use Rattle.rules.specs.Sample.{capture-sample}
-use Rattle.board_rules.specs.TwoBuffers.{landing-event, word-event, closes, frame-event, sample-events}
+use Rattle.board_rules.specs.TwoBuffers.{landing-event, word-event, has-closed, frame-event, sample-events}
 use Rattle.delivery.specs.Noted.{Turn, word-turn, turn-after, next-turn, Noted, note, words}
 use Rattle.delivery.proofs.Following.{answered, leaving, byte-after}
 use Rattle.delivery.proofs.Chain.{left, passed}
@@ -50,4 +50,4 @@ sample-tagged s w p i granted k l t ns quiet g =
     let k₁ = keeps k es in
     let one = landing-tagged granted p k l t ns g in
     let two = word-tagged (c .word) i k₁ (passed granted l ns) t (left granted ns) one in
-    rw (quiet, keeps-append k es, keeps-append k₁ fs) (end-tagged (closes s c) (keeps k₁ fs) (passed granted l ns) (turn-after true t (c .word)) _ two)
+    rw (quiet, keeps-append k es, keeps-append k₁ fs) (end-tagged (has-closed s c) (keeps k₁ fs) (passed granted l ns) (turn-after true t (c .word)) _ two)

@@ -8,13 +8,13 @@ use native.Mathlib.Nat.{add-zero}
 use native.Mathlib.Omega.{arith}
 use lib.ListN.{length, take-append-drop}
 use Rattle.buffers.specs.declared.Buffer.{Buffer}
-use Rattle.buffers.specs.Story.{same}
+use Rattle.buffers.specs.Story.{same-buffer}
 use Rattle.output.specs.Output.{OutputState, contents, with-held, holding, with-counts, with-place, count-landed, stored, no-landing, lands, oldest-lands, grant}
 use Rattle.output.proofs.Untouched.{offer-untouched}
 use Rattle.landing.specs.Landing.{take-in}
 use Rattle.board_rules.specs.BoardRuns.{Lent, frame-buffer, refilled}
 use Rattle.delivery.specs.Noted.{Noted, words}
-use Rattle.delivery.specs.Placed.{with-word, byte-of, with-noted}
+use Rattle.delivery.specs.Placed.{with-word, standing-at, with-noted}
 use Rattle.delivery.proofs.Following.{leaving, buffer-after, Roomy}
 use Rattle.delivery.proofs.Stored.{refilled-word}
 use Rattle.delivery.proofs.Chain.{gone}
@@ -26,7 +26,7 @@ First u p (n ∷ ns) = (u ≡ n .turn .buffer) × (p ≡ n .turn .number)
 
 -- A memory after a landing in buffer u, or none.
 pub landing-memory : (v u : Buffer) (p : ℕ) (granted : Bool) (ns : List Noted) (l : Lent) → First u p ns
-    → refilled l (cond (same v u) (buffer-after p (leaving granted (words ns)) (frame-buffer l)) (frame-buffer l)) ≡ with-noted v (l .start) (gone granted ns) (l .memory)
+    → refilled l (cond (same-buffer v u) (buffer-after p (leaving granted (words ns)) (frame-buffer l)) (frame-buffer l)) ≡ with-noted v (l .start) (gone granted ns) (l .memory)
 unfolding with-noted
 landing-memory v u p granted ns l = go granted ns
   where
@@ -35,15 +35,15 @@ landing-memory v u p granted ns l = go granted ns
     whole false = take-append-drop (l .start) (l .memory)
 
     one : (n : Noted) (b : Bool)
-        → refilled l (cond b (stored (n .turn .number) (n .word) (frame-buffer l)) (frame-buffer l)) ≡ cond b (with-word (byte-of (l .start) n) (n .word) (l .memory)) (l .memory)
+        → refilled l (cond b (stored (n .turn .number) (n .word) (frame-buffer l)) (frame-buffer l)) ≡ cond b (with-word (standing-at (l .start) n) (n .word) (l .memory)) (l .memory)
     one n true = refilled-word (l .start) (n .turn .number) (n .word) (l .memory)
     one n false = take-append-drop (l .start) (l .memory)
 
     go : (granted : Bool) (ns : List Noted) → First u p ns
-        → refilled l (cond (same v u) (buffer-after p (leaving granted (words ns)) (frame-buffer l)) (frame-buffer l)) ≡ with-noted v (l .start) (gone granted ns) (l .memory)
-    go granted [] f = whole (same v u)
-    go true (n ∷ ns) f = rw (f .0, f .1) (one n (same v (n .turn .buffer)))
-    go false (n ∷ ns) f = whole (same v u)
+        → refilled l (cond (same-buffer v u) (buffer-after p (leaving granted (words ns)) (frame-buffer l)) (frame-buffer l)) ≡ with-noted v (l .start) (gone granted ns) (l .memory)
+    go granted [] f = whole (same-buffer v u)
+    go true (n ∷ ns) f = rw (f .0, f .1) (one n (same-buffer v (n .turn .buffer)))
+    go false (n ∷ ns) f = whole (same-buffer v u)
 
 -- Landed counts what lands: rule 1, and rule 9 leaves it.
 pub rule-landed : (g on : Bool) (x : OutputState) (b : List ℕ) (ns : List Noted) → contents x ≡ words ns → Roomy (contents x) (x .output .place) b

@@ -31,7 +31,7 @@ use Rattle.delivery.proofs.Events.{sample-tagged}
 use Rattle.delivery.proofs.Landings.{rule-landed, take-in-landed}
 use Rattle.delivery.proofs.Sampling.{packs}
 use Rattle.delivery.proofs.Standing.{system, Turning, told, Standing, Fair, real-room, lands-first, one-lands}
-use Rattle.delivery.proofs.Stepping.{one-stepped, two-stepped, one-told, two-told, same-buffer}
+use Rattle.delivery.proofs.Stepping.{one-stepped, two-stepped, one-told, two-told, buffer-lent}
 
 -- The memories in which words have landed have the scenario's starts.
 told-starts : (two : Bool) (x : Scenario) (l : Both) (done : List Noted) → ((u : Buffer) → lent u l ≡ told x u done) → starts-in two l ≡ starts-in two (x .lent)
@@ -107,7 +107,7 @@ module _ {on : Bool} (x : Scenario) (c : Capture) (o : Out) (t : Turn) (i w : �
       let q = oldest-place p k in
       let first = lands-first (Two k) p _ line t rest g in
       let there = real-room x u q done rest (lent u l) rooms first (told-so u) in
-      let (is, says) = two-stepped c o w p l rest f e k (same-buffer u l (Roomy (words rest) q) there) in
+      let (is, says) = two-stepped c o w p l rest f e k (buffer-lent u l (Roomy (words rest) q) there) in
       let h = y .output .held in
       let long : h ≡ length (rest′ true) = omega (arith, landed′, all, ap length (all-words true) ∙ length-append done′ (rest′ true)) in
       let g′ = sample-tagged c w q i granted _ line t rest (f .quiet) g in (

@@ -21,7 +21,7 @@ use Rattle.board_rules.specs.TwoBuffers.{frame-event, sample-events, two-step, 
 use Rattle.board_rules.specs.BoardCalls as board-calls
 use Rattle.board_rules.specs.BoardRuns as board-runs
 use Rattle.board_rules.specs.BoardRuns.{Both, lent, frame-buffer, one-refusal, two-refusal, turns-of}
-use Rattle.delivery.specs.Calls.{SetUpCall, a-write, after-set-up, after-set-ups, boards, Starts, one-memory, two-memories, Call, a-run, starts-of, System, refusal-of, refusal, accepted, after-call, samples, stepped, inside, moments}
+use Rattle.delivery.specs.Calls.{SetUpCall, a-write, after-set-up, after-set-ups, boards, Starts, one-memory, two-memories, Call, a-run, starts-of, System, refusal-of, refusal, accepted, after-call, samples, stepped, moments-inside, moments}
 use Rattle.delivery.specs.Noted.{write-found, noted-write, with-mode, noted-set-up, noted-set-ups, word-turn, turn-after, next-turn, Noted, note, noted, any-error, spacing}
 use Rattle.delivery.specs.Delivery.{grants, Scenario, set-up, trace, configured, distance, noted-by, start-bytes, One-start, Room, Provided, Premises, All, all-moments}
 
@@ -104,7 +104,7 @@ unfolding turn-rules.fresh-turns turn-rules.with-turn turn-rules.with-tags turn-
 every-board-rule = tt
 
 unfoldable every-note : Unit {0}
-unfolding after-set-up after-set-ups boards refusal-of accepted after-call samples stepped inside moments write-found noted-write with-mode noted-set-up noted-set-ups word-turn turn-after next-turn note noted any-error spacing
+unfolding after-set-up after-set-ups boards refusal-of accepted after-call samples stepped moments-inside moments write-found noted-write with-mode noted-set-up noted-set-ups word-turn turn-after next-turn note noted any-error spacing
 every-note = tt
 
 -- Whether a scenario has these windows, its spacing, its calls' refusal numbers, how many moments and accepted samples it has, the numbers of the samples at which

@@ -8,7 +8,7 @@ use native.Mathlib.Omega.{arith}
 use lib.ListN.{length, length-append}
 use lib.Seq.{append-snoc}
 use Rattle.rules.specs.Run.{Packed}
-use Rattle.delivery.specs.Calls.{Starts, Call, starts-of, brings, System, accepted, after-call, samples, says, stepped, Moment, moment, inside, moments}
+use Rattle.delivery.specs.Calls.{Starts, Call, starts-of, brings, System, accepted, after-call, samples, says, stepped, Moment, moment, moments-inside, moments}
 use Rattle.delivery.specs.Delivery.{All, One-start}
 use Rattle.delivery.proofs.Alls.{all-append}
 use Rattle.delivery.proofs.OneCall.{accepts, after-call-is, none-some, call-says}
@@ -20,8 +20,8 @@ unfolding sampled
 sampled-from t u s [] same = refl
 sampled-from t u s (w ∷ ws) same = rw (same (omega arith))
 
-inside-from : (t u : Starts) (s : System) (n : ℕ) (ws : List ℕ) → (0 < length ws → u ≡ t) → inside u s n ws ≡ inside t s n ws
-unfolding inside
+inside-from : (t u : Starts) (s : System) (n : ℕ) (ws : List ℕ) → (0 < length ws → u ≡ t) → moments-inside u s n ws ≡ moments-inside t s n ws
+unfolding moments-inside
 inside-from t u s n [] same = refl
 inside-from t u s n (w ∷ ws) same = rw (same (omega arith))
 
@@ -75,8 +75,8 @@ module _ (t : Starts) (s₀ : System) where
       }
 
   -- The moments inside an accepted run.
-  inside-reached : (xs ws zs : List ℕ) (n : ℕ) (s : System) → n ≡ length xs → s ≡ sampled t s₀ xs → All (Reached (xs ++ (ws ++ zs))) (inside t s n ws)
-  unfolding inside sampled
+  inside-reached : (xs ws zs : List ℕ) (n : ℕ) (s : System) → n ≡ length xs → s ≡ sampled t s₀ xs → All (Reached (xs ++ (ws ++ zs))) (moments-inside t s n ws)
+  unfolding moments-inside sampled
   inside-reached xs [] zs n s e a = tt
   inside-reached xs (w ∷ ws) zs n s e a =
       let next : n + 1 ≡ length (xs ++ w ∷ []) = rw length-append (omega arith) in
@@ -97,7 +97,7 @@ module _ (t : Starts) (s₀ : System) where
       let next : n + length ws ≡ length (xs ++ ws) = rw length-append (omega arith) in
       let a′ = call-after xs s c (one .0) a in
       rw (inside-from t (starts-of c) s n ws (one .0))
-      (all-append (Reached (xs ++ (ws ++ zs))) (inside t s n ws) (_ ∷ moments s′ (n + length ws) cs) (inside-reached xs ws zs n s e a) (
+      (all-append (Reached (xs ++ (ws ++ zs))) (moments-inside t s n ws) (_ ∷ moments s′ (n + length ws) cs) (inside-reached xs ws zs n s e a) (
         rw append-assoc at (reached (xs ++ ws) zs _ _ _ next a′ (says-answered xs s c (one .0) a)),
         rw append-assoc at (moments-reached (xs ++ ws) cs _ _ (one .1) next a′),
       ))

@@ -11,7 +11,7 @@ use borrow.Author.Tests.{le-leb}
 use Rattle.buffers.specs.declared.Buffer.{Buffer}
 use Rattle.buffers.specs.declared.Buffer.the-variants.{A, B}
 use Rattle.buffers.specs.Turns.{oldest-buffer, oldest-place}
-use Rattle.buffers.specs.Story.{same}
+use Rattle.buffers.specs.Story.{same-buffer}
 use Rattle.buffers.specs.Kept.{Kept}
 use Rattle.output.specs.Output.{OutputState, contents, room}
 use Rattle.landing.specs.Landing.{Out, first-rule}
@@ -27,7 +27,7 @@ use Rattle.board_rules.specs.State.{is-two}
 use Rattle.board_rules.specs.BoardRuns.{Lent, Both, lent, memories, frame-buffer}
 use Rattle.delivery.specs.Calls.{System}
 use Rattle.delivery.specs.Noted.{Turn, Noted, words}
-use Rattle.delivery.specs.Placed.{byte-of, with-noted}
+use Rattle.delivery.specs.Placed.{standing-at, with-noted}
 use Rattle.delivery.specs.Delivery.{All, Scenario, Room}
 use Rattle.delivery.proofs.Alls.{all-first, all-last, all-map}
 use Rattle.delivery.proofs.Inputs.{input}
@@ -76,8 +76,8 @@ pub record Fair (on : Bool) (c : Capture) (o : Out) (w : ℕ) : Type 0 where
 pub within : (x : Scenario) (u : Buffer) (n : Noted) → Room x n → Within u (lent u (x .lent) .start) (length (lent u (x .lent) .memory)) n
 within x u n = go u (n .turn .buffer)
   where
-    go : (u v : Buffer) → 4 * n .turn .number + 4 ≤ length (frame-buffer (lent v (x .lent))) → same u v ≡ true
-        → byte-of (lent u (x .lent) .start) n + 4 ≤ length (lent u (x .lent) .memory)
+    go : (u v : Buffer) → 4 * n .turn .number + 4 ≤ length (frame-buffer (lent v (x .lent))) → same-buffer u v ≡ true
+        → standing-at (lent u (x .lent) .start) n + 4 ≤ length (lent u (x .lent) .memory)
     go A A h e = omega (arith, rw length-drop at h)
     go A B h e = absurd (false≢true e)
     go B A h e = absurd (false≢true e)

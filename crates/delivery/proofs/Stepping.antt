@@ -10,7 +10,7 @@ use Rattle.buffers.specs.declared.Buffer.{Buffer}
 use Rattle.buffers.specs.declared.Buffer.the-variants.{A, B}
 use Rattle.buffers.specs.declared.Turns.{Turns}
 use Rattle.buffers.specs.Turns.{oldest-buffer, oldest-place}
-use Rattle.buffers.specs.Story.{same}
+use Rattle.buffers.specs.Story.{same-buffer}
 use Rattle.buffers.specs.Kept.{Kept, keeps}
 use Rattle.output.specs.Output.{contents, with-place}
 use Rattle.samples.specs.Samples.{bus-grant}
@@ -100,7 +100,7 @@ more-told x u done more l memory e is =
     ∙ ap {B = Lent} (λ (l : Lent). record { memory = with-noted u (l .start) more (l .memory); start = l .start }) e
     ∙ ap lend (sym (with-noted-append u start done more (lent u (x .lent) .memory)))
 
-part-with : (u v : Buffer) (f : List ℕ → List ℕ) (p : Pair) → part u (with-part v (f (part v p)) p) ≡ cond (same u v) (f (part u p)) (part u p)
+part-with : (u v : Buffer) (f : List ℕ → List ℕ) (p : Pair) → part u (with-part v (f (part v p)) p) ≡ cond (same-buffer u v) (f (part u p)) (part u p)
 part-with A A f p = refl
 part-with A B f p = refl
 part-with B A f p = refl
@@ -125,6 +125,6 @@ module _ (x : Scenario) (l : Both) (done rest : List Noted) (granted : Bool) (to
       more-told x B done more (l .b) _ (told-so B)
       (ap (refilled (l .b)) (part-with B v (buffer-after p (leaving granted (words rest))) (buffers l)) ∙ landing-memory B v p granted rest (l .b) first)
 
-pub same-buffer : (u : Buffer) (l : Both) (P : List ℕ → Type 0) → P (frame-buffer (lent u l)) → P (part u (buffers l))
-same-buffer A l P h = h
-same-buffer B l P h = h
+pub buffer-lent : (u : Buffer) (l : Both) (P : List ℕ → Type 0) → P (frame-buffer (lent u l)) → P (part u (buffers l))
+buffer-lent A l P h = h
+buffer-lent B l P h = h

@@ -12,10 +12,10 @@ use borrow.Author.Tests.{eqb-false}
 use Rattle.bits.proofs.Booleans.{by-cond}
 use Rattle.buffers.specs.declared.Buffer.{Buffer}
 use Rattle.buffers.specs.declared.Buffer.the-variants.{A, B}
-use Rattle.buffers.specs.Story.{same}
+use Rattle.buffers.specs.Story.{same-buffer}
 use Rattle.output.specs.Output.{bytes, stored}
 use Rattle.delivery.specs.Noted.{Noted}
-use Rattle.delivery.specs.Placed.{with-word, byte-of, with-noted}
+use Rattle.delivery.specs.Placed.{with-word, standing-at, with-noted}
 use Rattle.delivery.specs.Delivery.{All, Elsewhere}
 use Rattle.delivery.proofs.Alls.{all-first, all-last}
 
@@ -35,7 +35,7 @@ refilled-word start p v memory =
       append-assoc (take start memory) here (bytes v ++ rest),
     )
 
-pub same-self : (u : Buffer) → same u u ≡ true
+pub same-self : (u : Buffer) → same-buffer u u ≡ true
 same-self A = refl
 same-self B = refl
 
@@ -47,7 +47,7 @@ with-noted-append u start (n ∷ ns) ms memory = with-noted-append u start ns ms
 
 -- Lengths: a word of this buffer has its bytes in a memory of so many.
 abbrev pub Within : Buffer → ℕ → ℕ → Noted → Type 0
-Within u start size w = same u (w .turn .buffer) ≡ true → byte-of start w + 4 ≤ size
+Within u start size w = same-buffer u (w .turn .buffer) ≡ true → standing-at start w + 4 ≤ size
 
 module _ (at v : ℕ) (memory : List ℕ) (space : at + 4 ≤ length memory) where
   front : length (take at memory) ≡ at
@@ -89,9 +89,9 @@ module _ (u : Buffer) (start size : ℕ) where
   Sized m = length m ≡ size
 
   one-sized : (n : Noted) (m : List ℕ) → Within u start size n → Sized m
-      → Sized (cond (same u (n .turn .buffer)) (with-word (byte-of start n) (n .word) m) m)
+      → Sized (cond (same-buffer u (n .turn .buffer)) (with-word (standing-at start n) (n .word) m) m)
   one-sized n m inside e =
-      by-cond Sized (same u (n .turn .buffer)) _ _ (λ t. with-word-length (byte-of start n) (n .word) m (omega (arith, inside t)) ∙ e) (λ t. e)
+      by-cond Sized (same-buffer u (n .turn .buffer)) _ _ (λ t. with-word-length (standing-at start n) (n .word) m (omega (arith, inside t)) ∙ e) (λ t. e)
 
   pub with-noted-length : (ns : List Noted) (m : List ℕ) → All (Within u start size) ns → Sized m → Sized (with-noted u start ns m)
   unfolding with-noted
@@ -99,22 +99,22 @@ module _ (u : Buffer) (start size : ℕ) where
   with-noted-length (n ∷ ns) m inside e = with-noted-length ns _ (inside .1) (one-sized n m (inside .0) e)
 
   one-stays : (w n : Noted) (m : List ℕ) → w .turn .buffer ≡ u → Elsewhere w n → Within u start size n → Sized m
-      → take 4 (drop (byte-of start w) (cond (same u (n .turn .buffer)) (with-word (byte-of start n) (n .word) m) m)) ≡ take 4 (drop (byte-of start w) m)
+      → take 4 (drop (standing-at start w) (cond (same-buffer u (n .turn .buffer)) (with-word (standing-at start n) (n .word) m) m)) ≡ take 4 (drop (standing-at start w) m)
   one-stays w n m own other inside e =
-      by-cond (λ (r : List ℕ). take 4 (drop (byte-of start w) r) ≡ take 4 (drop (byte-of start w) m)) (same u (n .turn .buffer)) _ _
+      by-cond (λ (r : List ℕ). take 4 (drop (standing-at start w) r) ≡ take 4 (drop (standing-at start w) m)) (same-buffer u (n .turn .buffer)) _ _
       (λ t.
       let differ = eqb-false (w .turn .number) (n .turn .number) (rw (own, t) at other) in
-      let space : byte-of start n + 4 ≤ length m = omega (arith, inside t) in
+      let space : standing-at start n + 4 ≤ length m = omega (arith, inside t) in
       go (decLe (w .turn .number + 1) (n .turn .number)) differ space)
       (λ t. refl)
     where
-      go : Dec (w .turn .number + 1 ≤ n .turn .number) → (w .turn .number ≡ n .turn .number → ⊥) → byte-of start n + 4 ≤ length m
-          → take 4 (drop (byte-of start w) (with-word (byte-of start n) (n .word) m)) ≡ take 4 (drop (byte-of start w) m)
-      go (yes h) differ space = with-word-before (byte-of start n) (n .word) m space (byte-of start w) (omega arith)
-      go (no h) differ space = with-word-behind (byte-of start n) (n .word) m space (byte-of start w) (omega arith)
+      go : Dec (w .turn .number + 1 ≤ n .turn .number) → (w .turn .number ≡ n .turn .number → ⊥) → standing-at start n + 4 ≤ length m
+          → take 4 (drop (standing-at start w) (with-word (standing-at start n) (n .word) m)) ≡ take 4 (drop (standing-at start w) m)
+      go (yes h) differ space = with-word-before (standing-at start n) (n .word) m space (standing-at start w) (omega arith)
+      go (no h) differ space = with-word-behind (standing-at start n) (n .word) m space (standing-at start w) (omega arith)
 
   all-stay : (w : Noted) (ns : List Noted) (m : List ℕ) → w .turn .buffer ≡ u → All (Elsewhere w) ns → All (Within u start size) ns → Sized m
-      → take 4 (drop (byte-of start w) (with-noted u start ns m)) ≡ take 4 (drop (byte-of start w) m)
+      → take 4 (drop (standing-at start w) (with-noted u start ns m)) ≡ take 4 (drop (standing-at start w) m)
   unfolding with-noted
   all-stay w [] m own others inside e = refl
   all-stay w (n ∷ ns) m own others inside e =
@@ -123,13 +123,13 @@ module _ (u : Buffer) (start size : ℕ) where
   -- The last word stored at its bytes stands there.
   pub stands : (before : List Noted) (w : Noted) (after : List Noted) (m : List ℕ) → w .turn .buffer ≡ u → All (Elsewhere w) after
       → All (Within u start size) (before ++ w ∷ after) → Sized m
-      → take 4 (drop (byte-of start w) (with-noted u start (before ++ w ∷ after) m)) ≡ bytes (w .word)
+      → take 4 (drop (standing-at start w) (with-noted u start (before ++ w ∷ after) m)) ≡ bytes (w .word)
   unfolding with-noted
   stands before w after m own others inside e =
-      let mine : same u (w .turn .buffer) ≡ true = rw own (same-self u) in
+      let mine : same-buffer u (w .turn .buffer) ≡ true = rw own (same-self u) in
       let now = with-noted u start before m in
       let long = with-noted-length before m (all-first (Within u start size) before (w ∷ after) inside) e in
       let (here, behind) = all-last (Within u start size) before (w ∷ after) inside in
       rw (with-noted-append u start before (w ∷ after) m, mine)
-      (all-stay w after (with-word (byte-of start w) (w .word) now) own others behind (with-word-length _ _ now (omega (arith, here mine)) ∙ long)
-      ∙ with-word-there (byte-of start w) (w .word) now (omega (arith, here mine)))
+      (all-stay w after (with-word (standing-at start w) (w .word) now) own others behind (with-word-length _ _ now (omega (arith, here mine)) ∙ long)
+      ∙ with-word-there (standing-at start w) (w .word) now (omega (arith, here mine)))

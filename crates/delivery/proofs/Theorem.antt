@@ -21,7 +21,7 @@ use Rattle.board_rules.specs.TwoBuffers.{Pair, part}
 use Rattle.board_rules.specs.BoardRuns.{Lent, Both, lent, memories}
 use Rattle.delivery.specs.Calls.{boards, System, Moment, moments}
 use Rattle.delivery.specs.Noted.{first-turn, Noted, noted-at, any-error}
-use Rattle.delivery.specs.Placed.{byte-of}
+use Rattle.delivery.specs.Placed.{standing-at}
 use Rattle.delivery.specs.Delivery.{grants, Scenario, set-up, trace, configured, distance, noted-by, start-bytes, One-start, Room, Premises, Elsewhere, Promised, All, unsampled, all-moments, Delivery}
 use Rattle.delivery.proofs.Alls.{all-append, all-first, all-map}
 use Rattle.delivery.proofs.Inputs.{captures, inputs-take, inputs-length, count-words, first-calm, calm-by-pins}
@@ -63,7 +63,7 @@ module _ (x : Scenario) (p : Premises x) where
   -- A landed word stands at its bytes until another lands there.
   stood : (done : List Noted) (now : Pair) → All (Room x) done → ((u : Buffer) → part u now ≡ told x u done .memory)
       → (before : List Noted) (w : Noted) (after : List Noted) → done ≡ before ++ w ∷ after → All (Elsewhere w) after
-      → take 4 (drop (byte-of (lent (w .turn .buffer) (x .lent) .start) w) (part (w .turn .buffer) now)) ≡ bytes (w .word)
+      → take 4 (drop (standing-at (lent (w .turn .buffer) (x .lent) .start) w) (part (w .turn .buffer) now)) ≡ bytes (w .word)
   stood done now fit is before w after e others =
       let u = w .turn .buffer in
       let start = lent u (x .lent) .start in

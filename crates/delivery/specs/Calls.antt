@@ -131,9 +131,9 @@ abbrev pub moment : System → ℕ → Option Packed → Moment
 moment s n p = record { board = s .board; memories = s .memories; count = n; packed = p }
 
 -- The moments inside an accepted call: after each of its samples.
-unfoldable pub inside : Starts → System → ℕ → List ℕ → List Moment
-inside t s n [] = []
-inside t s n (w ∷ ws) = moment (stepped t s w) (n + 1) none ∷ inside t (stepped t s w) (n + 1) ws
+unfoldable pub moments-inside : Starts → System → ℕ → List ℕ → List Moment
+moments-inside t s n [] = []
+moments-inside t s n (w ∷ ws) = moment (stepped t s w) (n + 1) none ∷ moments-inside t (stepped t s w) (n + 1) ws
 
 -- Every moment of a list of calls, n samples being accepted before: after each sample inside an accepted call, and after each call.
 unfoldable pub moments : System → ℕ → List Call → List Moment
@@ -141,4 +141,4 @@ moments s n [] = []
 moments s n (c ∷ cs) =
     let s′ = after-call s c in
     let n′ = n + length (accepted s c) in
-    inside (starts-of c) s n (accepted s c) ++ (moment s′ n′ (says s c) ∷ moments s′ n′ cs)
+    moments-inside (starts-of c) s n (accepted s c) ++ (moment s′ n′ (says s c) ∷ moments s′ n′ cs)

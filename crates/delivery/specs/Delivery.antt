@@ -8,7 +8,7 @@ use lib.Dec.{eqb}
 use lib.ListN.{length, take, drop}
 use Rattle.bits.specs.Bits.{bit}
 use Rattle.buffers.specs.declared.Buffer.{Buffer}
-use Rattle.buffers.specs.Story.{same}
+use Rattle.buffers.specs.Story.{same-buffer}
 use Rattle.rules.specs.State.{output-of}
 use Rattle.rules.specs.Run.{Packed}
 use Rattle.samples.specs.Samples.{bus-grant}
@@ -20,7 +20,7 @@ use Rattle.board_rules.specs.BoardCalls.{fresh-of}
 use Rattle.board_rules.specs.BoardRuns.{Both, lent, frame-buffer, memories}
 use Rattle.delivery.specs.Calls.{SetUpCall, after-set-ups, boards, Starts, one-memory, two-memories, Call, starts-of, System, accepted, after-call, samples, Moment, moments}
 use Rattle.delivery.specs.Noted.{Configured, noted-set-ups, first-turn, Noted, noted, words, noted-at, any-error, spacing}
-use Rattle.delivery.specs.Placed.{byte-of, with-noted}
+use Rattle.delivery.specs.Placed.{standing-at, with-noted}
 
 -- How many of some samples grant the bus.
 unfoldable pub grants : List ℕ → ℕ
@@ -98,7 +98,7 @@ landed-at m = m .board .device .core .output .counts .landed
 
 -- Another word's bytes are not this one's: it has another buffer or number. In one frame no two words have the same.
 abbrev pub Elsewhere : Noted → Noted → Type 0
-Elsewhere w v = same (w .turn .buffer) (v .turn .buffer) && eqb (w .turn .number) (v .turn .number) ≡ false
+Elsewhere w v = same-buffer (w .turn .buffer) (v .turn .buffer) && eqb (w .turn .number) (v .turn .number) ≡ false
 
 -- What is promised at a moment after n samples.
 pub record Promised (x : Scenario) (m : Moment) : Type 0 where
@@ -120,7 +120,7 @@ pub record Promised (x : Scenario) (m : Moment) : Type 0 where
   pub stands :
       (before : List Noted) (w : Noted) (after : List Noted) → take (landed-at m) (noted-by x (m .count)) ≡ before ++ w ∷ after →
       All (Elsewhere w) after →
-      take 4 (drop (byte-of (lent (w .turn .buffer) (x .lent) .start) w) (part (w .turn .buffer) (m .memories))) ≡ bytes (w .word)
+      take 4 (drop (standing-at (lent (w .turn .buffer) (x .lent) .start) w) (part (w .turn .buffer) (m .memories))) ≡ bytes (w .word)
   -- An accepted single sample says the word noted at it, or none, and never a lost one.
   pub answers : (p : Packed) → m .packed ≡ some p → p ≡ noted-at (m .count) (noted-by x (m .count))
 

@@ -18,7 +18,7 @@ use Rattle.refusals.specs.Refusals.{first}
 use Rattle.rules.specs.Sample.{capture-sample, next-capture}
 use Rattle.rules.specs.Run.{Packed, nothing, completed}
 use Rattle.rules.specs.RegisterCalls.{register-tests, write-register}
-use Rattle.board_rules.specs.TwoBuffers.{closes}
+use Rattle.board_rules.specs.TwoBuffers.{has-closed}
 use Rattle.delivery.specs.Calls.{SetUpCall, a-write, one-buffer, two-buffers}
 
 -- A register write by the register rules alone: refused by 2 to 6, or its effect.
@@ -71,7 +71,7 @@ turn-after two t (some v) = record { buffer = word-turn two t .buffer; number = 
 unfoldable pub next-turn : Bool → Turn → Capture → Captured → Turn
 next-turn two t s c =
     let u = turn-after two t (c .word) in
-    cond (two && closes s c) (record { buffer = u .buffer; number = 0 }) u
+    cond (two && has-closed s c) (record { buffer = u .buffer; number = 0 }) u
 
 -- A noted word, the number of its sample, its buffer and its number there.
 pub record Noted : Type 0 where

@@ -4,7 +4,7 @@ use mathlib.Core.List.{List, [], _∷_, _++_}
 use Prim.Native.Nat.{ℕ, _+_, _*_}
 use lib.ListN.{take, drop}
 use Rattle.buffers.specs.declared.Buffer.{Buffer}
-use Rattle.buffers.specs.Story.{same}
+use Rattle.buffers.specs.Story.{same-buffer}
 use Rattle.output.specs.Output.{bytes}
 use Rattle.delivery.specs.Noted.{Noted}
 
@@ -13,10 +13,10 @@ unfoldable pub with-word : ℕ → ℕ → List ℕ → List ℕ
 with-word at v memory = take at memory ++ bytes v ++ drop (at + 4) memory
 
 -- The byte at which a word stands, from a start byte on.
-abbrev pub byte-of : ℕ → Noted → ℕ
-byte-of start w = start + 4 * w .turn .number
+abbrev pub standing-at : ℕ → Noted → ℕ
+standing-at start w = start + 4 * w .turn .number
 
 unfoldable pub with-noted : Buffer → ℕ → List Noted → List ℕ → List ℕ
 with-noted u start [] memory = memory
 with-noted u start (w ∷ ws) memory =
-    with-noted u start ws (cond (same u (w .turn .buffer)) (with-word (byte-of start w) (w .word) memory) memory)
+    with-noted u start ws (cond (same-buffer u (w .turn .buffer)) (with-word (standing-at start w) (w .word) memory) memory)

@@ -26,7 +26,7 @@ use Rattle.rules.proofs.WellFormed.{WellFormed}
 use Rattle.laws.specs.Ledger.{numbers}
 use Rattle.laws.proofs.Errors.{no-word-in-error}
 use Rattle.laws.proofs.KeepsSample.{step-laid}
-use Rattle.board_rules.specs.State.{kept}
+use Rattle.board_rules.specs.State.{kept-of}
 use Rattle.board_rules.specs.TwoBuffers.{landing-event, word-event, frame-event, sample-events, Pair, part, with-part, landing-in, Two, TwoStepped, two-step}
 use Rattle.board_rules.proofs.WellFormed.{TurnsOk}
 use Rattle.laws.proofs.KeepsWrites.{placed-ok}
@@ -84,7 +84,7 @@ unfolding contents with-place
 placed-laid k d laid = record { fits = laid .fits; within = laid .within; slots = laid .slots }
 
 module _ (x : Two) (well : WellFormed (x .device)) (turns : TurnsOk (x .device .core .output) (x .turns)) (laid : Laid (output-of (x .device))) where
-  within : Within (numbers (x .device .core .output)) (kept (x .device) (x .turns))
+  within : Within (numbers (x .device .core .output)) (kept-of (x .device) (x .turns))
   within = record { turns = record { buffers = turns .buffers; opening = turns .opening; place = turns .place }; place = well .output .place }
 
   oldest-low : oldest-place (x .device .core .output .place) (x .turns) ≤ x .device .core .output .counts .landed
@@ -99,11 +99,11 @@ module _ (x : Two) (well : WellFormed (x .device)) (turns : TurnsOk (x .device .
   pub asks-place : x .device .core .output .counts .samples + 1 < 2 ^ 32 → oldest-place (x .device .core .output .place) (x .turns) + 1 < 2 ^ 32
   asks-place fits = omega (arith, oldest-low, well .output .equation, well .output .completed)
 
-  pub asks-tags : (w v : ℕ) → inner x w .packed ≡ completed v → TagsFit (keeps (kept (x .device) (x .turns)) (landing-event (inner x w .landing)))
+  pub asks-tags : (w v : ℕ) → inner x w .packed ≡ completed v → TagsFit (keeps (kept-of (x .device) (x .turns)) (landing-event (inner x w .landing)))
   unfolding two-step with-place
   asks-tags w v e =
       let b = part (oldest-buffer (x .turns)) (x .buffers) in
-      let k = kept (x .device) (x .turns) in
+      let k = kept-of (x .device) (x .turns) in
       let k₁ = keeps k (landing-event (inner x w .landing)) in
       let after = step-laid (found x) b w asks-laid in
       let more = two-step-held x w ∙ held-more k (capture-of (x .device)) w (inner x w .landing) v e (completed-quiet (found x) b w v e) in
@@ -125,7 +125,7 @@ made u k r m =
     record { after = record { device = register-rules.placed (k .place-a) (r .device); turns = k .turns; buffers = m }; landing = landing-in u (r .landing); packed = r .packed }
 
 abbrev kept-by : Two → ℕ → Stepped → Kept
-kept-by x w r = keeps (kept (x .device) (x .turns)) (events (capture-of (x .device)) w (r .device .core) (r .landing) (r .packed))
+kept-by x w r = keeps (kept-of (x .device) (x .turns)) (events (capture-of (x .device)) w (r .device .core) (r .landing) (r .packed))
 
 pub one-step : (x : Two) (w : ℕ) (u : Buffer) (r : Stepped) (m : Pair) → u ≡ oldest-buffer (x .turns) → r ≡ inner x w → m ≡ with-part u (r .buffer) (x .buffers)
     → made u (kept-by x w r) r m ≡ two-step x w
@@ -136,4 +136,4 @@ one-step x w u r m eu er em =
     ap (λ (z : Pair). made u (kept-by x w r) r z) em
     ∙ ap (λ (z : Buffer). made z (kept-by x w r) r (with-part z (r .buffer) (x .buffers))) eu
     ∙ ap (λ (z : Stepped). made o (kept-by x w z) z (with-part o (z .buffer) (x .buffers))) er
-    ∙ ap (λ (k : Kept). made o k (inner x w) (with-part o (inner x w .buffer) (x .buffers))) (closing (found x) b w (kept (x .device) (x .turns)))
+    ∙ ap (λ (k : Kept). made o k (inner x w) (with-part o (inner x w .buffer) (x .buffers))) (closing (found x) b w (kept-of (x .device) (x .turns)))

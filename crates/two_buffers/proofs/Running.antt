@@ -20,7 +20,7 @@ use Rattle.rules.specs.RegisterCalls.{placed}
 use Rattle.rules.specs.Run.{Packed, nothing, completed, lost, Stepped, step, Ran, steps}
 use Rattle.laws.specs.Ledger.{Ledger, sample-entry, landing-entry, word-entry, error-entry, enter, numbers}
 use Rattle.laws.proofs.CountsFromHistory.{step-counted}
-use Rattle.board_rules.specs.State.{kept}
+use Rattle.board_rules.specs.State.{kept-of}
 use Rattle.board_rules.specs.TwoBuffers.{landing-event, word-event, frame-event, sample-events, Pair, part, with-part, Two, two-step, two-steps}
 use Rattle.board_laws.proofs.TwoKeeps.{keeps-append}
 use Rattle.two_buffers.proofs.Idle.{place-after, step-place, idle-landing, idle-step}
@@ -124,7 +124,7 @@ module _ (x : Two) (u : Buffer) (turns-by : Ledger → ℕ → Turns) (place-by 
   after-is : (r : Ran) (w : ℕ) → Same r w
       → (let R = step (r .device) (r .buffer) w in
       let y = run-as r in
-      keeps (kept (y .device) (y .turns)) (sample-events (capture-of (r .device)) w (R .landing) (R .packed)) ≡ Kept-as (numbers (R .device .core .output)) (R .device .core .output .place))
+      keeps (kept-of (y .device) (y .turns)) (sample-events (capture-of (r .device)) w (R .landing) (R .packed)) ≡ Kept-as (numbers (R .device .core .output)) (R .device .core .output .place))
       → two-step (run-as r) w .after ≡ run-as (next r w)
   unfolding two-step with-place
   after-is r w same e =
@@ -132,7 +132,7 @@ module _ (x : Two) (u : Buffer) (turns-by : Ledger → ℕ → Turns) (place-by 
       let v = oldest-buffer (y .turns) in
       let i = inner y w in
       let R = step (r .device) (r .buffer) w in
-      let found = kept (y .device) (y .turns) in
+      let found = kept-of (y .device) (y .turns) in
       let s = capture-of (r .device) in
       let events : keeps found (sample-events s w (i .landing) (i .packed)) ≡ Kept-as (numbers (R .device .core .output)) (R .device .core .output .place) =
       ap (λ (o : Option ℕ). keeps found (sample-events s w o (i .packed))) (same .landing) ∙ ap (λ (q : Packed). keeps found (sample-events s w (R .landing) q)) (same .packed) ∙ e in
@@ -230,7 +230,7 @@ module _ (x : Two) (u : Buffer) (turns-by : Ledger → ℕ → Turns) (place-by 
           let (rests, last, rest) = calm in
           ap (λ (y : Two). two-steps y ws) (on-next r w on rests)
           ∙ go (step (r .device) (r .buffer) w .packed) refl
-          (λ kept. follows (next r w) ws (events r w on (rests .error) .1 kept) rest)
+          (λ kept-of. follows (next r w) ws (events r w on (rests .error) .1 kept-of) rest)
           (λ e. silent-run (next r w) ws (lost-next r w (rests .error) e) (last e))
         where
           go : {P : Type 0} (q : Packed) → step (r .device) (r .buffer) w .packed ≡ q → (¬ (step (r .device) (r .buffer) w .packed ≡ lost) → P) → (step (r .device) (r .buffer) w .packed ≡ lost → P) → P
