@@ -113,19 +113,13 @@ pub fn latest_frame(
     }
 }
 
-// So many bytes of a memory from its start on; and none.
+// So many bytes of a memory from its start on.
 fn part_in<'m>(memory: &'m [u8], start: usize, bytes: usize) -> &'m [u8]
     requires { ⌜ start + bytes ≤ length (now memory) ⌝ }
     ensures { λ r. ⌜ now r ≡ take bytes (drop start (now (memory .entry))) ⌝ }
 {
     let end = start + bytes;
     &memory[start..end]
-}
-
-fn no_part<'m>(memory: &'m [u8]) -> &'m [u8]
-    ensures { λ r. ⌜ now r ≡ [] ⌝ }
-{
-    &memory[0..0]
 }
 
 // The part that an answer names; empty where it names none.
@@ -140,9 +134,9 @@ fn part_of<'m>(
     ensures { λ r. ⌜ now r ≡ handing-rules.handed-part (call-answers.handed handed) (call-answers.both (now («memory_a» .entry)) «start_a» (now («memory_b» .entry)) «start_b») ⌝ }
 {
     match handed {
-        Handed::Nothing => no_part(memory_a),
-        Handed::TooShort(_, _) => no_part(memory_a),
-        Handed::Refused(_) => no_part(memory_a),
+        Handed::Nothing => part_in(memory_a, 0, 0),
+        Handed::TooShort(_, _) => part_in(memory_a, 0, 0),
+        Handed::Refused(_) => part_in(memory_a, 0, 0),
         Handed::FrameIn(u, bytes) => match u {
             Buffer::A => part_in(memory_a, start_a, bytes),
             Buffer::B => part_in(memory_b, start_b, bytes),
@@ -150,39 +144,20 @@ fn part_of<'m>(
     }
 }
 
-// The second number of an answer: 1 for a frame in A, 2 in B; 3 for A's memory too short, 4 for B's.
-fn kind_in(u: Buffer) -> u32
-    ensures { λ r. ⌜ r ≡ call-answers.kind-in u ⌝ }
-{
-    match u {
-        Buffer::A => 1,
-        Buffer::B => 2,
-    }
-}
-
-fn kind_short(u: Buffer) -> u32
-    ensures { λ r. ⌜ r ≡ call-answers.kind-short u ⌝ }
-{
-    match u {
-        Buffer::A => 3,
-        Buffer::B => 4,
-    }
-}
-
-// An answer as two numbers: the refusal's, 0 where the call is accepted; and the second, 0 for no frame.
+// An answer as two numbers: the refusal's, 0 where the call is accepted; and 0 for no frame, 1 for one in A, 2 in B, 3 for A's memory too short, 4 for B's.
 fn told(handed: Handed) -> [u32; 2]
     ensures { λ r. ⌜ r ≡ call-answers.told (call-answers.handed handed) ⌝ }
 {
     match handed {
         Handed::Nothing => [0, 0],
-        Handed::TooShort(u, _) => {
-            let kind = kind_short(u);
-            [0, kind]
-        }
-        Handed::FrameIn(u, _) => {
-            let kind = kind_in(u);
-            [0, kind]
-        }
+        Handed::TooShort(u, _) => match u {
+            Buffer::A => [0, 3],
+            Buffer::B => [0, 4],
+        },
+        Handed::FrameIn(u, _) => match u {
+            Buffer::A => [0, 1],
+            Buffer::B => [0, 2],
+        },
         Handed::Refused(refusal) => {
             let number = refusal.number();
             [number, 0]
