@@ -3,12 +3,16 @@ use mathlib.Core.Bool.{Bool, true, false, cond}
 use mathlib.Core.List.{List, [], _∷_, _++_}
 use mathlib.Core.Path.{_≡_, refl, sym, ap, _∙_}
 use Prim.Native.Nat.{ℕ, zero, suc, _+_, _-_, _≤_, _<_, _^_}
+use native.Mathlib.Nat.{zero-add}
 use native.Mathlib.Omega.{arith}
 use lib.Dec.{eqb}
 use lib.ListN.{length, take, drop}
 use lib.Seq.{sets, length-sets, take-at}
 use borrow.Author.Tests.{ne-eqb, eqb-false}
-use Rattle.samples.specs.Samples.{any-bad}
+use types.Run.{OneOf, miss}
+use denote.Enum.Declared.{tagOf}
+use Rattle.bits.proofs.Booleans.{or-false}
+use Rattle.samples.specs.Samples.{bad-sample, any-bad}
 use Rattle.rules.specs.declared.Device.{Device}
 use Rattle.rules.specs.Run.{step, Ran, steps}
 use Rattle.rules.specs.WellFormed.{malformed}
@@ -17,12 +21,17 @@ use Rattle.laws.proofs.Keeps.{steps-append, steps-keep}
 use Rattle.laws.proofs.KeepsSample.{step-samples}
 use Rattle.trace_format.specs.Format.{sample-limit}
 use Rattle.trace_format.specs.Reading.{form-refusal, sample-count, sample-start, whole, samples-from, samples-of, file-refusal}
-use Rattle.trace.specs.Decoding.{samples-in, how-many}
+use Rattle.trace.proofs.Samples as samples-kinds
+use Rattle.trace.specs.declared.Samples as declared
+use Rattle.trace.specs.declared.Samples.the-variants as samples-cases
+use Rattle.trace.specs.Answers.{samples}
+use Rattle.trace.specs.Decoding.{samples-in, how-many, many, samples-at}
 use Rattle.refusals.proofs.Numbered.{never-zero}
 use Rattle.refusals.specs.Table.{number}
 use Rattle.refusals.specs.declared.Refusal.{Refusal}
 use Rattle.trace_format.proofs.Putting.{put-over}
 use Rattle.trace_format.proofs.Form.{formed}
+use Rattle.trace_format.proofs.Walk.{clash}
 use Rattle.trace_format.proofs.Rewritten.{length-samples-from}
 use Rattle.trace.proofs.ManySamples.{samples-over, samples-append, samples-here}
 
@@ -40,6 +49,15 @@ accepted-file f e = go (form-refusal f) (any-bad (samples-of f)) e
     go zero true e = absurd (omega arith)
     go zero false e = (refl, refl)
     go (suc n) b e = absurd (omega (arith, rw (ne-eqb (suc n) 0 (λ z. absurd (omega arith))) at e))
+
+-- A list without a bad sample has none in its parts.
+parted : (xs ys : List ℕ) → any-bad (xs ++ ys) ≡ false → (any-bad xs ≡ false) × (any-bad ys ≡ false)
+unfolding any-bad
+parted [] ys e = (refl, e)
+parted (x ∷ xs) ys e =
+    let (here, later) = or-false (bad-sample x) (any-bad (xs ++ ys)) e in
+    let (front, back) = parted xs ys later in
+    (rw (here, front), back)
 
 -- A refused file of the right form has a bad sample.
 pub refused-file : (f : List ℕ) (r : Refusal) → form-refusal f ≡ 0 → number r ≡ file-refusal f → (any-bad (samples-of f) ≡ true) × (number r ≡ 7)
@@ -65,7 +83,7 @@ stepping-start f buffer array d well none room =
 
 module _ {f buffer₀ : List ℕ} {d₀ : Device} {buffer : List ℕ} {d : Device} {k : ℕ} {array : List ℕ} (s : Stepping f buffer₀ d₀ buffer d k array) where
   -- The next samples stand at the front of the array.
-  module _ (form : form-refusal f ≡ 0) (inside : k < sample-count f) {array′ : List ℕ} {n : ℕ} (many : n ≡ how-many f (sample-start f k) (sample-count f - k) (length array))
+  module _ (form : form-refusal f ≡ 0) (inside : k < sample-count f) {array′ : List ℕ} {n : ℕ} (count-is : n ≡ how-many f (sample-start f k) (sample-count f - k) (length array))
       (front : array′ ≡ sets array 0 (samples-in n (drop (sample-start f k) f))) where
     pub some : (0 < n) × (n ≤ 64) × (k + n ≤ sample-count f)
     unfolding how-many
@@ -103,6 +121,34 @@ module _ {f buffer₀ : List ℕ} {d₀ : Device} {buffer : List ℕ} {d : Devic
           long = el ∙ s .long;
           room = rw (front, length-sets) (s .room);
         }
+
+  -- Before the last sample the reader gives some: neither the end nor a refusal.
+  module _ (accepted : file-refusal f ≡ 0) (inside : k < sample-count f) where
+    abbrev next-many : ℕ
+    next-many = how-many f (sample-start f k) (sample-count f - k) (length array)
+
+    good-next : any-bad (samples-in next-many (drop (sample-start f k) f)) ≡ false
+    good-next =
+        let (form, good) = accepted-file f accepted in
+        let all : k + (sample-count f - k) ≡ sample-count f = omega arith in
+        let later : any-bad (samples-from f k (sample-count f - k)) ≡ false = rw (zero-add k) at (parted (samples-from f 0 k) (samples-from f (0 + k) (sample-count f - k)) (rw (← samples-append f 0 k (sample-count f - k), all) good) .1) in
+        let cut : samples-from f k (sample-count f - k) ≡ samples-from f k next-many ++ samples-from f (k + next-many) (sample-count f - (k + next-many)) = halves form inside {array′ = sets array 0 (samples-in next-many (drop (sample-start f k) f))} {n = next-many} refl refl in
+        rw (samples-here f next-many k) (parted (samples-from f k next-many) (samples-from f (k + next-many) (sample-count f - (k + next-many))) (sym (ap any-bad cut) ∙ later) .0)
+
+    some-next : samples-at f (sample-start f k) (sample-count f - k) (length array) ≡ many next-many
+    unfolding samples-at
+    some-next =
+        let (form, good) = accepted-file f accepted in
+        let more = some form inside {array′ = sets array 0 (samples-in next-many (drop (sample-start f k) f))} {n = next-many} refl refl in
+        rw (ne-eqb next-many 0 (λ z. absurd (omega (arith, more .0))), good-next)
+
+    pub only-samples : (r : declared.Samples) → samples r ≡ samples-at f (sample-start f k) (sample-count f - k) (length array) → OneOf (1 ∷ 2 ∷ []) (tagOf samples-kinds.the-type r) → ⊥
+    only-samples r e kind = go r kind (e ∙ some-next)
+      where
+        go : (r : declared.Samples) → OneOf (1 ∷ 2 ∷ []) (tagOf samples-kinds.the-type r) → samples r ≡ many next-many → ⊥
+        go (samples-cases.Many v) kind e = miss (1 ∷ 2 ∷ []) 0 tt kind
+        go samples-cases.End kind e = clash cc
+        go (samples-cases.Refused v) kind e = clash cc
 
   pub stepping-end : sample-count f ≤ k → _≡_ {A = Ran} (record { device = d; buffer = buffer }) (steps d₀ buffer₀ (samples-of f))
   unfolding steps

@@ -19,6 +19,7 @@ use refusals::Outcome;
 use refusals::Refusal;
 use rules::Device;
 use sampling::run;
+use trace::Samples;
 use trace::check_file;
 use trace::check_form;
 use trace::sample_count;
@@ -84,11 +85,11 @@ fn set_up(fresh: Device, file: &[u8]) -> Changed
     }
 }
 
-// The samples of a file of the right form in order, up to 64 at a time.
+// The samples of an accepted file in order, up to 64 at a time. Before the last of them neither the end nor a refusal is read, as the proof says.
 fn steps(d: Device, buffer: &mut [u8], file: &[u8]) -> Device
     requires { ⌜ WellFormed d ⌝ }
     requires { ⌜ d .core .output .counts .samples ≡ 0 ⌝ }
-    requires { ⌜ reading.form-refusal (now file) ≡ 0 ⌝ }
+    requires { ⌜ reading.file-refusal (now file) ≡ 0 ⌝ }
     ensures { λ r. ⌜ sample-answers.ran r (now (buffer .exit)) ≡ run-rules.steps d (now (buffer .entry)) (reading.samples-of (now (file .entry))) ⌝ }
 {
     let count = sample_count(file);
@@ -97,7 +98,11 @@ fn steps(d: Device, buffer: &mut [u8], file: &[u8]) -> Device
     let mut done = 0;
     let mut samples = [0; 64];
     while done < count {
-        let n = samples_at(file, from + 3 * done, count - done, &mut samples);
+        let next = samples_at(file, from + 3 * done, count - done, &mut samples);
+        let Samples::Many(n) = next else {
+            // the end or a refusal: no sample is left
+            return e;
+        };
         e = run(e, buffer, &samples[..n]);
         done += n;
     }

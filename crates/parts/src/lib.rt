@@ -17,6 +17,7 @@ use device::Changed;
 use refusals::Outcome;
 use refusals::Refusal;
 use rules::Device;
+use trace::Samples;
 use trace::check_header;
 use trace::form_of;
 use trace::header_length;
@@ -268,8 +269,8 @@ fn samples_left(head: &[u8], taken: usize) -> usize
     0
 }
 
-// The samples of a part from a byte on, up to 256, as one run. No byte is taken where no sample begins, and where the run is refused: the bytes one at a time tell which
-// sample it is.
+// The samples of a part from a byte on, up to 256, as one run. No byte is taken where no sample begins, and where one of them or the run is refused: the bytes one at a time tell
+// which sample it is.
 fn take_samples(parts: Parts, bytes: &[u8], at: usize, memory: &mut [u8], start: usize) -> Forward
     requires { ⌜ at < length (now bytes) ⌝ }
     ensures { λ r. ⌜ at + r .bytes ≤ length (now (bytes .entry)) ⌝ }
@@ -281,10 +282,10 @@ fn take_samples(parts: Parts, bytes: &[u8], at: usize, memory: &mut [u8], start:
     let outcome = parts.outcome;
     if fine(outcome) {
         let mut samples = [0; 256];
-        let n = samples_at(bytes, at, samples_left(&head, taken), &mut samples);
-        if n == 0 {
+        let next = samples_at(bytes, at, samples_left(&head, taken), &mut samples);
+        let Samples::Many(n) = next else {
             return Forward { parts, bytes: 0 };
-        }
+        };
         let d = parts.device;
         let ran = device::run(d, memory, start, &samples[..n]);
         let device = ran.device;
@@ -376,7 +377,8 @@ fn take_some(parts: Parts, bytes: &[u8], at: usize, memory: &mut [u8], start: us
     ran
 }
 
-// The next bytes of the file, over the memory from the start byte on. No refusal of the file is answered.
+// The next bytes of the file, over the memory from the start byte on. No refusal of the file is answered. Memory and start are the same at each call: the memory is what the last one left, and nobody else
+// writes it.
 pub fn take(parts: Parts, bytes: &[u8], memory: &mut [u8], start: usize) -> Parts
     ensures { λ r. ⌜ parts-answers.taken r (now (memory .exit)) ≡ parts-rules.take-bytes start (parts-answers.taken parts (now (memory .entry))) (now (bytes .entry)) ⌝ }
 {
@@ -400,7 +402,7 @@ fn refused(outcome: Outcome) -> Changed
     }
 }
 
-// The end of the file: the form checks 13, 10, 11, 13, 12, 13, the first refused write's or sample's number, 9; or the device after the file.
+// The end of the file: the form checks 13, 10, 11, 13, 12, 13, the first refused write's or sample's number, 9; or the device after the file. Memory and start are those of the calls of `take`.
 pub fn end(parts: Parts, memory: &[u8], start: usize) -> Changed
     ensures { λ r. ⌜ device-answers.changed r ≡ parts-rules.ended (parts-answers.state parts) (now (memory .entry)) start ⌝ }
 {

@@ -1,20 +1,23 @@
 -- The samples of a file, one at a time, in pieces, and from its bytes; and what the decoding loop keeps.
-use mathlib.Core.Bool.{Bool, true, false}
+use mathlib.Core.Bool.{Bool, true, false, cond}
 use mathlib.Core.List.{List, [], _∷_, _++_}
 use mathlib.Core.Path.{_≡_, refl, sym, ap, _∙_}
-use Prim.Native.Nat.{ℕ, zero, suc, _+_, _-_, _*_, _≤_, _<_, _^_}
+use Prim.Native.Nat.{ℕ, zero, suc, _+_, _-_, _*_, _/_, _≤_, _<_, _^_, min}
 use native.Mathlib.Nat.{zero-add, add-zero, add-suc, suc-add}
 use native.Mathlib.Numerals.{add-one}
 use native.Mathlib.Omega.{arith}
-use lib.Dec.{leb}
-use lib.ListN.{length, getD, set, drop}
-use lib.Seq.{sets, drop-drop}
-use borrow.Author.Tests.{leb-true, leb-false, le-leb, lt-leb}
-use Rattle.samples.specs.Samples.{bad-sample}
+use lib.Dec.{eqb, leb}
+use lib.ListN.{length, getD, set, take, drop}
+use lib.Seq.{sets, drop-drop, take-at}
+use borrow.Author.Tests.{leb-true, leb-false, le-leb, lt-leb, ne-eqb}
+use Rattle.samples.specs.Samples.{bad-sample, any-bad}
 use Rattle.trace_format.specs.Reading.{field, sample-start, sample-at, samples-from}
-use Rattle.trace.specs.Decoding.{samples-in}
+use Rattle.trace.specs.Decoding.{samples-in, how-many, Samples, many, the-end, refused, samples-at}
+use Rattle.trace.specs.Answers.{samples}
+use Rattle.trace.specs.declared.Samples as declared
+use Rattle.trace.specs.declared.Samples.the-variants as samples-cases
 use Rattle.trace_format.specs.Format.{sample-size}
-use Rattle.trace_format.proofs.Putting.{sets-append}
+use Rattle.trace_format.proofs.Putting.{sets-append, put-over}
 use Rattle.trace_format.proofs.Fields.{field-suc, field-one}
 
 -- A sample's three bytes; a bit above 17 is one of the third byte above its lowest two.
@@ -74,3 +77,60 @@ samples-here f zero k = refl
 samples-here f (suc n) k =
     let next : sample-start f k + sample-size ≡ sample-start f (suc k) = omega arith in
     rw (drop-drop sample-size (sample-start f k) f, next, samples-here f n (suc k))
+
+-- What samples many at a time answer: the end, refusal 7, or so many of them.
+module _ (bytes : List ℕ) (at most room n : ℕ) (is : n ≡ how-many bytes at most room) where
+  pub none-there : n ≡ 0 → the-end ≡ samples-at bytes at most room
+  unfolding samples-at
+  none-there e = rw (← is, e)
+
+  module _ (some : n ≡ 0 → ⊥) (array array′ : List ℕ) (fits : n ≤ length array) (front : array′ ≡ sets array 0 (samples-in n (drop at bytes))) where
+    pub front-samples : take n array′ ≡ samples-in n (drop at bytes)
+    front-samples =
+        let l = samples-in-length n (drop at bytes) in
+        rw (front, put-over array (samples-in n (drop at bytes)) n l fits) (take-at (samples-in n (drop at bytes)) (drop n array) n l)
+
+    pub one-bad : (b : Bool) → b ≡ any-bad (take n array′) → b ≡ true → refused 7 ≡ samples-at bytes at most room
+    unfolding samples-at
+    one-bad b told e = rw (← is, ne-eqb n 0 some, ← front-samples, ← told, e)
+
+    pub all-good : (b : Bool) → b ≡ any-bad (take n array′) → b ≡ false → many n ≡ samples-at bytes at most room
+    unfolding samples-at
+    all-good b told e = rw (← is, ne-eqb n 0 some, ← front-samples, ← told, e)
+
+-- Of so many samples, how many there are, that there is one, and that none is bad.
+pub record Many (bytes : List ℕ) (at most room n : ℕ) : Type 0 where
+  pub is : n ≡ how-many bytes at most room
+  pub some : n ≡ 0 → ⊥
+  pub good : any-bad (samples-in n (drop at bytes)) ≡ false
+
+pub so-many : (bytes : List ℕ) (at most room n : ℕ) → many n ≡ samples-at bytes at most room → Many bytes at most room n
+unfolding samples-at
+so-many bytes at most room n e = go (how-many bytes at most room) refl e
+  where
+    go : (m : ℕ) → m ≡ how-many bytes at most room → many n ≡ cond (eqb m 0) the-end (cond (any-bad (samples-in m (drop at bytes))) (refused 7) (many m)) → Many bytes at most room n
+    go zero is e = absurd (let z : _≡_ {A = ℕ} 0 1 = cc in omega arith)
+    go (suc m) is e = by-good (any-bad (samples-in (suc m) (drop at bytes))) refl (rw (ne-eqb (suc m) 0 (λ z. absurd (omega arith))) at e)
+      where
+        by-good : (b : Bool) → any-bad (samples-in (suc m) (drop at bytes)) ≡ b → many n ≡ cond b (refused 7) (many (suc m)) → Many bytes at most room n
+        by-good true bad e = absurd (let z : _≡_ {A = ℕ} 0 1 = cc in omega arith)
+        by-good false good e =
+            let same : n ≡ suc m = cc in
+            record { is = same ∙ is; some = λ z. absurd (omega (arith, same)); good = rw same good }
+
+-- The same of the code's answer, taken apart.
+pub taken-apart : (bytes : List ℕ) (at most room : ℕ) (r : declared.Samples) (n : ℕ) → r ≡ samples-cases.Many n → samples r ≡ samples-at bytes at most room → Many bytes at most room n
+taken-apart bytes at most room r n e told = so-many bytes at most room n (sym (ap samples e) ∙ told)
+
+-- How many are given, from the two smaller numbers that the code takes; none where the byte lies behind the end.
+pub counted : (bytes : List ℕ) (at most room n m : ℕ) → n ≡ min room m → m ≡ min most ((length bytes - at) / sample-size) → n ≡ how-many bytes at most room
+unfolding how-many
+counted bytes at most room n m e f = rw (← f) e
+
+pub none-behind : (bytes : List ℕ) (at most room : ℕ) → length bytes < at → 0 ≡ how-many bytes at most room
+unfolding how-many
+none-behind bytes at most room past = omega arith
+
+pub none-put : (array r : List ℕ) (n : ℕ) → 0 ≡ n → array ≡ sets array 0 (samples-in n r)
+unfolding samples-in
+none-put array r n e = rw (← e)

@@ -8,7 +8,9 @@ ghost use Rattle.refusals.specs.Table.{outcome};
 ghost use Rattle.samples.specs.Samples as samples;
 ghost use Rattle.trace_format.specs.Format as format;
 ghost use Rattle.trace_format.specs.Reading as reading;
+ghost use Rattle.trace.specs.Answers as decoding-answers;
 ghost use Rattle.trace.specs.Decoding as decodings;
+use crate::Samples;
 use crate::form::check_form;
 use crate::form::sample_count;
 use crate::form::samples_start;
@@ -105,16 +107,22 @@ fn decode_all(bytes: &[u8], at: usize, n: usize, array: &mut [u32])
     }
 }
 
-// The samples from a byte on, whatever their bits: those that are there whole, that the array takes, and at most as many as asked for. How many stand at the front of
-// the array; the rest of it stays.
-pub fn samples_at(bytes: &[u8], at: usize, most: usize, array: &mut [u32]) -> usize
-    ensures { λ r. ⌜ r ≡ decodings.how-many (now (bytes .entry)) at most (length (now (array .entry))) ⌝ }
-    ensures { λ r. ⌜ now (array .exit) ≡ sets (now (array .entry)) 0 (decodings.samples-in r (drop at (now (bytes .entry)))) ⌝ }
+// The samples from a byte on: those that are there whole, that the array takes, and at most as many as asked for. They stand at the front of the array, and the rest of it stays. Where
+// there is none it is the end, and where one of them has a bit above 17 refusal 7.
+pub fn samples_at(bytes: &[u8], at: usize, most: usize, array: &mut [u32]) -> Samples
+    ensures { λ r. ⌜ decoding-answers.samples r ≡ decodings.samples-at (now (bytes .entry)) at most (length (now (array .entry))) ⌝ }
+    ensures { λ r. ⌜ now (array .exit) ≡ sets (now (array .entry)) 0 (decodings.samples-in (decodings.how-many (now (bytes .entry)) at most (length (now (array .entry)))) (drop at (now (bytes .entry)))) ⌝ }
 {
     if bytes.len() < at {
-        return 0;
+        return Samples::End;
     }
     let n = fewer(array.len(), fewer(most, (bytes.len() - at) / SAMPLE_SIZE));
     decode_all(bytes, at, n, array);
-    n
+    if n == 0 {
+        return Samples::End;
+    }
+    if samples::any_bad(&array[..n]) {
+        return Samples::Refused(Refusal::SampleBits);
+    }
+    Samples::Many(n)
 }

@@ -16,3 +16,11 @@ pub use form::header_length;
 pub use form::sample_count;
 pub use form::samples_start;
 pub use form::write_count;
+use refusals::Refusal;
+
+// Samples many at a time: so many of them, at the front of an array; the end; or a refusal.
+pub enum Samples {
+    Many(usize),
+    End,
+    Refused(Refusal),
+}

@@ -18,7 +18,7 @@ returns c = rw (c .refused .ensures, lt-ltb _ _ (c .before .if1 .taken))
 steps-requires : tie.Need-steps-requires
 steps-requires c κs =
     let pre = c .before .before .before .before .before .before .before .pre in
-    (facts _ (pre .0), (pre .1 .0, pre .1 .1))
+    (facts _ (pre .0), (pre .1 .0, sym (c .before .before .before .check-file .ensures) ∙ ap outcome (c .before .enum-told .given .1)))
 
 returns-2 : tie.Need-returns-2
 unfolding samples-refusal run-samples
