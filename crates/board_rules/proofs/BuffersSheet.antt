@@ -326,6 +326,16 @@ by-codes =
     granting none ∷
     handed ▸ no-frame ∷
     []) ∷
+    -- or the word that opens it, with which its turn has passed: the next frame goes to B
+    two-coded 4
+    (feed (FS ++ 1 ∷ 2 ∷ 3 ∷ 4 ∷ FE) ∷
+    feed LS ∷
+    granting none ∷
+    handed ▸ no-frame ∷
+    feed (FS ++ 5 ∷ 6 ∷ 7 ∷ 8 ∷ FE) ∷
+    lands B 4 ∷
+    handed ▸ frame B (5 ∷ 6 ∷ 7 ∷ 8 ∷ []) ∷
+    []) ∷
     -- re-arming between FF 00 00 and XY: the bytes wait on, and XY makes the code
     two-coded 4
     (feed (0xFF ∷ 0 ∷ 0 ∷ []) ∷
