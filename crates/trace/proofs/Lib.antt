@@ -1,2 +1,3 @@
 pub mod ManySamples
 pub mod DecodingSheet
+pub mod AllBits

@@ -107,6 +107,19 @@ fn decode_all(bytes: &[u8], at: usize, n: usize, array: &mut [u32])
     }
 }
 
+// Whether one of some samples has a bit above 17: then all their bits together have one.
+fn bad_among(list: &[u32]) -> bool
+    ensures { λ r. ⌜ r ≡ samples.any-bad (now (list .entry)) ⌝ }
+{
+    let mut bits = 0;
+    let mut i = 0;
+    while i < list.len() {
+        bits = bits | list[i];
+        i += 1;
+    }
+    0x4_0000 <= bits
+}
+
 // The samples from a byte on: those that are there whole, that the array takes, and at most as many as asked for. They stand at the front of the array, and the rest of it stays. Where
 // there is none it is the end, and where one of them has a bit above 17 refusal 7.
 pub fn samples_at(bytes: &[u8], at: usize, most: usize, array: &mut [u32]) -> Samples
@@ -121,7 +134,7 @@ pub fn samples_at(bytes: &[u8], at: usize, most: usize, array: &mut [u32]) -> Sa
     if n == 0 {
         return Samples::End;
     }
-    if samples::any_bad(&array[..n]) {
+    if bad_among(&array[..n]) {
         return Samples::Refused(Refusal::SampleBits);
     }
     Samples::Many(n)

@@ -32,14 +32,14 @@ returns-2 c =
     let is = counted _ _ _ _ _ _ (c .before .before .before .before .before .fewer2 .ensures) (c .before .before .before .before .before .before .fewer .ensures) in
     (none-there _ _ _ _ _ is (c .if2 .taken), rw is at (c .before .before .before .decode-all .ensures))
 
-slice-reshare-prefix-any-bad : tie.Need-slice-reshare-prefix-any-bad
-slice-reshare-prefix-any-bad c = search needs
+slice-reshare-prefix-bad-among : tie.Need-slice-reshare-prefix-bad-among
+slice-reshare-prefix-bad-among c = search needs
 
-slice-aggregate-any-bad : tie.Need-slice-aggregate-any-bad
-slice-aggregate-any-bad c = sym (length-take-le _ _ (search needs))
+slice-aggregate-bad-among : tie.Need-slice-aggregate-bad-among
+slice-aggregate-bad-among c = sym (length-take-le _ _ (search needs))
 
-any-bad-requires : tie.Need-any-bad-requires
-any-bad-requires c κs = search needs
+bad-among-requires : tie.Need-bad-among-requires
+bad-among-requires c κs = search needs
 
 same-length-2 : tie.Need-same-length-2
 same-length-2 c = search needs
@@ -47,7 +47,7 @@ same-length-2 c = search needs
 returns-3 : tie.Need-returns-3
 returns-3 c =
     let is = counted _ _ _ _ _ _ (c .before .before .before .before .before .before .before .before .fewer2 .ensures) (c .before .before .before .before .before .before .before .before .before .fewer .ensures) in
-    (one-bad _ _ _ _ _ is (c .before .before .before .if2 .left) _ _ (omega (arith, c .before .before .before .before .before .before .before .before .fewer2 .ensures)) (c .before .before .before .before .before .before .decode-all .ensures) _ (c .before .any-bad .ensures) (c .if3 .taken), rw is at (c .before .before .before .before .before .before .decode-all .ensures))
+    (one-bad _ _ _ _ _ is (c .before .before .before .if2 .left) _ _ (omega (arith, c .before .before .before .before .before .before .before .before .fewer2 .ensures)) (c .before .before .before .before .before .before .decode-all .ensures) _ (c .before .bad-among .ensures) (c .if3 .taken), rw is at (c .before .before .before .before .before .before .decode-all .ensures))
 
 same-length-3 : tie.Need-same-length-3
 same-length-3 c = search needs
@@ -55,7 +55,7 @@ same-length-3 c = search needs
 returns-4 : tie.Need-returns-4
 returns-4 c =
     let is = counted _ _ _ _ _ _ (c .before .before .before .before .before .before .before .before .fewer2 .ensures) (c .before .before .before .before .before .before .before .before .before .fewer .ensures) in
-    (all-good _ _ _ _ _ is (c .before .before .before .if2 .left) _ _ (omega (arith, c .before .before .before .before .before .before .before .before .fewer2 .ensures)) (c .before .before .before .before .before .before .decode-all .ensures) _ (c .before .any-bad .ensures) (c .if3 .left), rw is at (c .before .before .before .before .before .before .decode-all .ensures))
+    (all-good _ _ _ _ _ is (c .before .before .before .if2 .left) _ _ (omega (arith, c .before .before .before .before .before .before .before .before .fewer2 .ensures)) (c .before .before .before .before .before .before .decode-all .ensures) _ (c .before .bad-among .ensures) (c .if3 .left), rw is at (c .before .before .before .before .before .before .decode-all .ensures))
 
 pub samples-at-spec : {M : Type 1} → statement M
 samples-at-spec =
@@ -68,9 +68,9 @@ samples-at-spec =
     decode-all-requires
     same-length
     returns-2
-    slice-reshare-prefix-any-bad
-    slice-aggregate-any-bad
-    any-bad-requires
+    slice-reshare-prefix-bad-among
+    slice-aggregate-bad-among
+    bad-among-requires
     same-length-2
     returns-3
     same-length-3
