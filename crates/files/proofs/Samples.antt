@@ -74,9 +74,9 @@ pub record Stepping (f buffer₀ : List ℕ) (d₀ : Device) (buffer : List ℕ)
   pub well : WellFormed d
   pub count : d .core .output .counts .samples ≡ k
   pub long : length buffer ≡ length buffer₀
-  pub room : length array ≡ 64
+  pub room : length array ≡ 256
 
-pub stepping-start : (f buffer array : List ℕ) (d : Device) → WellFormed d → d .core .output .counts .samples ≡ 0 → length array ≡ 64 → Stepping f buffer d buffer d 0 array
+pub stepping-start : (f buffer array : List ℕ) (d : Device) → WellFormed d → d .core .output .counts .samples ≡ 0 → length array ≡ 256 → Stepping f buffer d buffer d 0 array
 stepping-start f buffer array d well none room =
     let all : sample-count f - 0 ≡ sample-count f = omega arith in
     record { same = rw all; well = well; count = none; long = refl; room = room }
@@ -85,7 +85,7 @@ module _ {f buffer₀ : List ℕ} {d₀ : Device} {buffer : List ℕ} {d : Devic
   -- The next samples stand at the front of the array.
   module _ (form : form-refusal f ≡ 0) (inside : k < sample-count f) {array′ : List ℕ} {n : ℕ} (count-is : n ≡ how-many f (sample-start f k) (sample-count f - k) (length array))
       (front : array′ ≡ sets array 0 (samples-in n (drop (sample-start f k) f))) where
-    pub some : (0 < n) × (n ≤ 64) × (k + n ≤ sample-count f)
+    pub some : (0 < n) × (n ≤ 256) × (k + n ≤ sample-count f)
     unfolding how-many
     some =
         let exact : length f ≡ whole f = formed f (length f) form .exact in

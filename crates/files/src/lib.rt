@@ -1,5 +1,5 @@
 // Running a trace file on a fresh device, over lent bytes and memory: the form checks, the register writes, then the samples as one run, taken
-// from the file by the crates `trace_reader` and `trace`, writes one at a time and samples up to 64 at a time. Refused, the memory is as it was lent.
+// from the file by the crates `trace_reader` and `trace`, writes one at a time and samples up to 256 at a time. Refused, the memory is as it was lent.
 ghost use mathlib.Core.Bool.{false};
 ghost use mathlib.Core.List.{List};
 ghost use mathlib.Core.Path.{_≡_};
@@ -85,7 +85,7 @@ fn set_up(fresh: Device, file: &[u8]) -> Changed
     }
 }
 
-// The samples of an accepted file in order, up to 64 at a time. Before the last of them neither the end nor a refusal is read, as the proof says.
+// The samples of an accepted file in order, up to 256 at a time. Before the last of them neither the end nor a refusal is read, as the proof says.
 fn steps(d: Device, buffer: &mut [u8], file: &[u8]) -> Device
     requires { ⌜ WellFormed d ⌝ }
     requires { ⌜ d .core .output .counts .samples ≡ 0 ⌝ }
@@ -96,7 +96,7 @@ fn steps(d: Device, buffer: &mut [u8], file: &[u8]) -> Device
     let from = samples_start(file);
     let mut e = d;
     let mut done = 0;
-    let mut samples = [0; 64];
+    let mut samples = [0; 256];
     while done < count {
         let next = samples_at(file, from + 3 * done, count - done, &mut samples);
         let Samples::Many(n) = next else {

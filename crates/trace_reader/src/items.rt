@@ -30,7 +30,8 @@ fn checked(w: u32) -> Item
     Item::Sample(w)
 }
 
-// The item at a place: first the writes, then the samples, then the end.
+// The item at a place: first the writes, then the samples, then the end. It makes no form check, and a byte beyond the end of the slice reads as 0: for callers that have made the checks. Users read
+// by `read_once` or a reader, which make them.
 pub fn item_at(file: &[u8], place: usize) -> Item
     ensures { λ r. ⌜ trace-answers.item r ≡ reading.item (now (file .entry)) place ⌝ }
     ensures { λ r. ⌜ reading.past place (trace-answers.item r) < 2 ^ 64 ⌝ }

@@ -1,5 +1,5 @@
 // A trace file's items one at a time, first the writes, then the samples, then the end: from a slice and a place, or from a reader that holds them. Each function
-// answers for every slice and number, and states its answer as an equation with a definition.
+// answers for every slice and number, and states its answer as an equation with a definition. `item_at` alone makes no form checks: it is for the crates of this repository, which have made them.
 
 mod items;
 mod reader;
