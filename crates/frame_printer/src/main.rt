@@ -1,7 +1,7 @@
 // The frame printer: it runs the trace file on standard input by parts over 16,384 zero bytes, and prints the refusal, or the counts, the flags and each landed word: the lines that the crate `printing` gives, in
 // order. Nothing is printed before the outcome is certain. No byte is read behind the one that is one too many, nor behind a header that is refused. A read that fails ends the
 // input; a write that fails ends the output.
-// The buffers (request W7: at most 64 KiB): 32,768 bytes for input, 16,384 of memory, 32 for a line; 1,024 for samples in `parts`, and in `io` 4,096. Together 54,304.
+// The buffers (request W7: at most 64 KiB): 32,768 bytes for input, 16,384 of memory, 32 for a line; 2,048 for samples in `parts`, and in `io` 4,096. Together 55,328.
 ghost use mathlib.Core.Path.{_≡_};
 ghost use Rattle.frame_printer.specs.Reading as reading-facts;
 use libc::STDIN_FILENO;

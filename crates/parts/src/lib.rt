@@ -269,7 +269,7 @@ fn samples_left(head: &[u8], taken: usize) -> usize
     0
 }
 
-// The samples of a part from a byte on, up to 256, as one run. No byte is taken where no sample begins, and where one of them or the run is refused: the bytes one at a time tell
+// The samples of a part from a byte on, up to 512, as one run. No byte is taken where no sample begins, and where one of them or the run is refused: the bytes one at a time tell
 // which sample it is.
 fn take_samples(parts: Parts, bytes: &[u8], at: usize, memory: &mut [u8], start: usize) -> Forward
     requires { ⌜ at < length (now bytes) ⌝ }
@@ -281,7 +281,7 @@ fn take_samples(parts: Parts, bytes: &[u8], at: usize, memory: &mut [u8], start:
     let taken = parts.taken;
     let outcome = parts.outcome;
     if fine(outcome) {
-        let mut samples = [0; 256];
+        let mut samples = [0; 512];
         let next = samples_at(bytes, at, samples_left(&head, taken), &mut samples);
         let Samples::Many(n) = next else {
             return Forward { parts, bytes: 0 };
