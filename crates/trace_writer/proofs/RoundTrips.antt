@@ -19,7 +19,7 @@ use Rattle.samples.specs.Samples.{bad-sample, any-bad}
 use Rattle.trace_format.specs.declared.Write.{Write}
 use Rattle.trace_format.specs.Format.{Bytes, WritesFit, sample-limit, encode}
 use Rattle.trace_format.specs.Reading.{Item, a-write, a-sample, the-end, checked, past, found, read, visits, form-refusal, write-count, sample-count, sample-at, writes-from, samples-from, writes-of, samples-of}
-use Rattle.trace_writer.specs.Writing.{WriteResult, write-refusal, write}
+use Rattle.trace_writer.specs.Writing.{WriteResult, writer-refusal, write}
 use Rattle.trace_format.proofs.Fields.{field-one, count-below}
 use Rattle.trace_format.proofs.Numbers.{byte-below}
 use Rattle.trace_format.proofs.ReadBack.{SamplesFit, Fits, form-back, write-count-back, sample-count-back, writes-back, samples-back}
@@ -74,9 +74,9 @@ samples-fit (s ∷ ss) e =
     (leb-false _ _ now, samples-fit ss later)
 
 -- What the writer writes, the reader reads back: the same writes, then the same samples, then the end.
-module _ (ws : List Write) (ss out : List ℕ) (fit : WritesFit ws) (taken : write-refusal ws ss out ≡ 0) where
+module _ (ws : List Write) (ss out : List ℕ) (fit : WritesFit ws) (taken : writer-refusal ws ss out ≡ 0) where
   passed : (length ws ≤ 255) × (length ss ≤ sample-limit) × (any-bad ss ≡ false) × (length (encode ws ss) ≤ length out)
-  unfolding write-refusal
+  unfolding writer-refusal
   passed =
       let (a, (b, (c, (d, u)))) =
       accepted
@@ -103,7 +103,7 @@ module _ (ws : List Write) (ss out : List ℕ) (fit : WritesFit ws) (taken : wri
 -- Every accepted file is byte for byte what the writer writes for its content.
 pub written-again : (f out : List ℕ) → Bytes f → form-refusal f ≡ 0 → any-bad (samples-of f) ≡ false → length f ≤ length out
     → write (writes-of f) (samples-of f) out ≡ record { answer = answered (length f); buffer = f ++ drop (length f) out }
-unfolding write write-refusal
+unfolding write writer-refusal
 written-again f out bytes good fine h =
     let few : sample-count f ≤ sample-limit = count-below f (λ i. byte-below f i bytes) in
     let writes : write-count f ≤ 255 = rw (field-one f 5) (omega (arith, byte-below f 5 bytes)) in

@@ -10,8 +10,8 @@ use Rattle.trace_format.specs.declared.Write.{Write}
 use Rattle.trace_format.specs.Format.{sample-limit, encode}
 
 -- Refusals 14, 12, 7, 15 in order.
-unfoldable pub write-refusal : List Write → List ℕ → List ℕ → ℕ
-write-refusal writes samples out =
+unfoldable pub writer-refusal : List Write → List ℕ → List ℕ → ℕ
+writer-refusal writes samples out =
     first
     (ltb 255 (length writes) ⇒ 14 ∷
     ltb sample-limit (length samples) ⇒ 12 ∷
@@ -27,7 +27,7 @@ pub record WriteResult : Type 0 where
 -- Accepted, the buffer begins with the file and the bytes after it stay; refused, every byte stays.
 unfoldable pub write : List Write → List ℕ → List ℕ → WriteResult
 write writes samples out =
-    let number = write-refusal writes samples out in
+    let number = writer-refusal writes samples out in
     let file = encode writes samples in
     record {
       answer = answer number (length file);

@@ -5,7 +5,7 @@ use lib.ListN.{length}
 use native.Mathlib.Omega.{arith}
 use Prim.Native.Nat.{_+_, _*_}
 use Rattle.trace_format.specs.Format.{write-size, sample-size, encode}
-use Rattle.trace_writer.specs.Writing.{write, write-refusal, given}
+use Rattle.trace_writer.specs.Writing.{write, writer-refusal, given}
 use Rattle.trace_writer.proofs.Filling.{length-given}
 use Rattle.trace_format.proofs.Putting.{put-over}
 use Rattle.trace_format.proofs.ReadBack.{length-encode}
@@ -13,19 +13,19 @@ use Rattle.trace_writer.proofs.encode.Statement.{statement}
 use Rattle.trace_writer.proofs.encode.Tie as tie
 
 returns : tie.Need-returns
-unfolding write write-refusal
+unfolding write writer-refusal
 returns c = rw (length-given, lt-ltb _ _ (c .if1 .taken))
 
 returns-2 : tie.Need-returns-2
-unfolding write write-refusal
+unfolding write writer-refusal
 returns-2 c = rw (length-given, le-ltb _ _ (c .before .if1 .left), lt-ltb _ _ (c .if2 .taken))
 
 returns-3 : tie.Need-returns-3
-unfolding write write-refusal
+unfolding write writer-refusal
 returns-3 c = rw (length-given, le-ltb _ _ (c .before .before .before .if1 .left), le-ltb _ _ (c .before .before .if2 .left), ← c .before .any-bad .ensures, c .if3 .taken)
 
 returns-4 : tie.Need-returns-4
-unfolding write write-refusal
+unfolding write writer-refusal
 returns-4 c =
     let a = c .before .before .before .before .before .before .before .before .args in
     rw (
@@ -41,7 +41,7 @@ returns-4 c =
     )
 
 returns-5 : tie.Need-returns-5
-unfolding write write-refusal
+unfolding write writer-refusal
 returns-5 c =
     let a = c .before .before .before .before .before .before .before .before .before .before .before .before .args in
     let ws = given (a .count) (a .offsets .now) (a .values .now) in
