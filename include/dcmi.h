@@ -6,7 +6,7 @@
  * A pointer must be valid for the length beside it, or for the one object that it points to. Buffers that are passed to one call must not overlap.
  * A null pointer is allowed where the length beside it is 0, and nowhere else. No call keeps a pointer, allocates, locks or writes elsewhere.
  *
- * Link with libdcmi.a (x86-64). It needs `memcpy` and `memmove` of the C library. Usable from C11 and C++17. */
+ * Link with libdcmi.a (x86-64). It needs `memcpy`, `memmove` and `memset` of the C library. Usable from C11 and C++17. */
 #ifndef DCMI_H
 #define DCMI_H
 
