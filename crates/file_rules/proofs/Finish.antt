@@ -3,7 +3,7 @@
 use mathlib.Core.Bool.{false}
 use mathlib.Core.List.{List, [], _∷_}
 use mathlib.Core.Path.{_≡_, refl, ap, _∙_}
-use Prim.Native.Nat.{ℕ, _+_, _-_, _*_, _/_, _%_, _≤_, _<_, min}
+use Prim.Native.Nat.{ℕ, _+_, _-_, _*_, _/_, _≤_, _<_, min}
 use native.Mathlib.Decide.{decLt}
 use native.Mathlib.Nat.{add-zero}
 use native.Mathlib.Omega.{arith}
@@ -91,10 +91,10 @@ module _ (start : ℕ) (h f : List ℕ) (p : Passed h f) (none : header-refusal 
       let c : t .memory ≡ m = i .memory in
       λ x. record { state = record { head = a x; taken = b x; item = t .state .item; device = t .state .device; number = t .state .number }; memory = c x }
 
-  write-stays : (n : ℕ) (item : List ℕ) (d : Device) (m : List ℕ) (b : ℕ) → InWrites m (n + 1) (record { state = write-byte (at h n item d 0 m .state) b; memory = m })
+  write-stays : (n : ℕ) (item : List ℕ) (d : Device) (m : List ℕ) (place b : ℕ) → InWrites m (n + 1) (record { state = write-byte (at h n item d 0 m .state) place b; memory = m })
   unfolding write-byte after-write
-  write-stays n item d m b =
-      either (λ (s : State). InWrites m (n + 1) (record { state = s; memory = m })) (eqb ((n - header-length (version-of h)) % write-size + 1) write-size)
+  write-stays n item d m place b =
+      either (λ (s : State). InWrites m (n + 1) (record { state = s; memory = m })) (eqb (place + 1) write-size)
       (record { head = refl; taken = refl; memory = refl })
       (record { head = refl; taken = refl; memory = refl })
 
@@ -102,7 +102,7 @@ module _ (start : ℕ) (h f : List ℕ) (p : Passed h f) (none : header-refusal 
       → InWrites m (n + 1) (take-byte start (at h n item d number m) b)
   in-writes n item d number m b low high =
       by-bool (eqb number 0)
-      (λ e. rw (eqb-true number 0 e, write-step start h (p .passes) d m n item b low high) (write-stays n item d m b))
+      (λ e. rw (eqb-true number 0 e, write-step start h (p .passes) d m n item b low high) (write-stays n item d m _ b))
       (λ e. rw (count-step start h (p .passes) d m n item number b low (omega arith) (rw e)) (record { head = refl; taken = refl; memory = refl }))
 
   among-writes : (bs : List ℕ) (n : ℕ) (t : Taken) (m : List ℕ) → InWrites m n t → header-length (version-of h) ≤ n → n + length bs ≤ sample-start h 0 → InWrites m (n + length bs) (take-bytes start t bs)

@@ -1,14 +1,14 @@
 -- Request W8: of the runs that the parts of a file make none is refused with 1 or 8, and no write is with 1: the number that is remembered is neither, whatever has come.
 -- The idea: bytes leave the device well-formed; a sample takes three bytes behind the writes, so that no more are counted than the header says.
-use mathlib.Core.Bool.{false, _&&_}
+use mathlib.Core.Bool.{false, not}
 use mathlib.Core.List.{List, [], _∷_}
 use mathlib.Core.Path.{_≡_, refl}
-use Prim.Native.Nat.{ℕ, zero, suc, _+_, _-_, _*_, _%_, _≤_, _<_, _^_}
+use Prim.Native.Nat.{ℕ, zero, suc, _+_, _-_, _*_, _≤_, _<_, _^_}
 use native.Mathlib.Omega.{arith}
 use lib.Dec.{eqb, ltb}
 use lib.ListN.{drop, getD, set, replicate}
 use borrow.Author.Tests.{eqb-true, ltb-true, ltb-false}
-use Rattle.bits.proofs.Booleans.{by-cond, either, and-true}
+use Rattle.bits.proofs.Booleans.{by-cond, either}
 use Rattle.rules.specs.declared.Device.{Device}
 use Rattle.rules.specs.Run.{run-refusal, run, steps}
 use Rattle.rules.specs.WellFormed.{malformed}
@@ -21,7 +21,7 @@ use Rattle.trace_format.proofs.Fields.{field-below, count-below}
 use Rattle.file_rules.proofs.Neither.{Neither, write-neither, run-neither}
 use Rattle.file_rules.proofs.SettingUp.{write-samples}
 use Rattle.file_rules.proofs.WholeOrder.{never-answered as file-answers-neither}
-use Rattle.file_rules.specs.Parts.{State, Taken, opened, wants, after-write, after-sample, write-byte, sample-byte, item-byte, take-byte, take-bytes, take-parts, run-parts, joined}
+use Rattle.file_rules.specs.Parts.{State, Taken, opened, wants, after-write, after-sample, Falls, counted-only, write-place, sample-place, falls, write-byte, sample-byte, byte-at, take-byte, take-bytes, take-parts, run-parts, joined}
 use Rattle.file_rules.proofs.Taking.{parts-joined}
 use Rattle.file_rules.proofs.ByParts.{by-parts}
 
@@ -57,10 +57,10 @@ record Sound (s : State) : Type 0 where
   number : Neither (s .number)
 
 module _ (start : ℕ) (b : ℕ) (small : b < 256) where
-  write-sound : (s : State) → Sound s → s .taken < sample-start (s .head) 0 → Sound (write-byte s b)
+  write-sound : (s : State) → Sound s → s .taken < sample-start (s .head) 0 → Sound (write-byte s (write-place s) b)
   unfolding write-byte after-write
   write-sound s g among =
-      let place : ℕ = (s .taken - header-length (version-of (s .head))) % write-size in
+      let place : ℕ = write-place s in
       let put = bytes-set (s .item) place b small (g .item) in
       let item = set (s .item) place b in
       let offset = field item 0 1 in
@@ -77,11 +77,11 @@ module _ (start : ℕ) (b : ℕ) (small : b < 256) where
       })
       (λ _. record { head = g .head; item = put; well = g .well; count = omega (arith, g .count); number = g .number })
 
-  sample-sound : (t : Taken) → Sound (t .state) → sample-start (t .state .head) 0 ≤ t .state .taken → t .state .taken < whole (t .state .head) → Sound (sample-byte start t b .state)
+  sample-sound : (t : Taken) → Sound (t .state) → sample-start (t .state .head) 0 ≤ t .state .taken → t .state .taken < whole (t .state .head) → Sound (sample-byte start t (sample-place (t .state)) b .state)
   unfolding sample-byte after-sample
   sample-sound t g behind within =
       let s = t .state in
-      let place : ℕ = (s .taken - sample-start (s .head) 0) % sample-size in
+      let place : ℕ = sample-place s in
       let put = bytes-set (s .item) place b small (g .item) in
       let w = field (set (s .item) place b) 0 sample-size in
       by-cond (λ (u : Taken). Sound (u .state)) (eqb (place + 1) sample-size) _ _
@@ -98,11 +98,11 @@ module _ (start : ℕ) (b : ℕ) (small : b < 256) where
       (λ _. record { head = g .head; item = put; well = g .well; count = omega (arith, g .count); number = g .number })
 
   byte-sound : (t : Taken) → Sound (t .state) → Sound (take-byte start t b .state)
-  unfolding take-byte item-byte
+  unfolding take-byte falls byte-at
   byte-sound t g =
       let s = t .state in
-      let P : Taken → Type 0 = λ u. Sound (u .state) in
-      by-cond P (wants (s .head) (s .taken)) _ _
+      let P : Falls → Type 0 = λ f. Sound (byte-at f start t b .state) in
+      by-cond P (not (wants (s .head) (s .taken))) _ _ (λ _. g)
       (λ _.
       by-cond P (ltb (s .taken) (header-length (version-of (s .head)))) _ _
       (λ e.
@@ -110,14 +110,12 @@ module _ (start : ℕ) (b : ℕ) (small : b < 256) where
       let none : s .device .core .output .counts .samples ≡ 0 = omega (arith, g .count) in
       record { head = bytes-set (s .head) (s .taken) b small (g .head); item = g .item; well = g .well; count = rw none (omega arith); number = g .number })
       (λ _.
-      by-cond P (eqb (s .number) 0 && ltb (s .taken) (whole (s .head))) _ _
-      (λ e.
-      let within : s .taken < whole (s .head) = ltb-true _ _ (and-true (eqb (s .number) 0) (ltb (s .taken) (whole (s .head))) e .1) in
+      let counts : P counted-only = record { head = g .head; item = g .item; well = g .well; count = omega (arith, g .count); number = g .number } in
+      by-cond P (not (eqb (s .number) 0)) _ _ (λ _. counts)
+      (λ _.
       by-cond P (ltb (s .taken) (sample-start (s .head) 0)) _ _
-      (λ f. write-sound s g (ltb-true _ _ f))
-      (λ f. sample-sound t g (ltb-false _ _ f) within))
-      (λ _. record { head = g .head; item = g .item; well = g .well; count = omega (arith, g .count); number = g .number })))
-      (λ _. g)
+      (λ e. write-sound s g (ltb-true _ _ e))
+      (λ e. by-cond P (ltb (s .taken) (whole (s .head))) _ _ (λ f. sample-sound t g (ltb-false _ _ e) (ltb-true _ _ f)) (λ _. counts)))))
 
 bytes-sound : (start : ℕ) (t : Taken) (bs : List ℕ) → AreBytes bs → Sound (t .state) → Sound (take-bytes start t bs .state)
 unfolding take-bytes

@@ -59,37 +59,60 @@ after-sample start s memory =
     let r = run (s .device) memory start (field (s .item) 0 sample-size ∷ []) in
     record { state = record { head = s .head; taken = s .taken; item = no-item; device = r .device; number = r .number }; memory = r .memory }
 
--- A byte of a write, and of a sample: its place there is the remainder of the bytes since the first of them.
-unfoldable pub write-byte : State → ℕ → State
-write-byte s b =
-    let place = (s .taken - header-length (version-of (s .head))) % write-size in
-    let after = next s (s .head) (set (s .item) place b) in
-    cond (eqb (place + 1) write-size) (after-write after) after
+-- Where the next byte falls (01, "Trace file"; W7): in the header; in a write or a sample, at a place of its five or three bytes; where a byte is counted only, behind a
+-- refused write or sample and behind the last sample; or where none is wanted any more.
+pub data Falls : Type 0 where
+  in-header : Falls
+  in-write : (place : ℕ) → Falls
+  in-sample : (place : ℕ) → Falls
+  counted-only : Falls
+  not-wanted : Falls
 
-unfoldable pub sample-byte : ℕ → Taken → ℕ → Taken
-sample-byte start t b =
-    let s = t .state in
-    let place = (s .taken - sample-start (s .head) 0) % sample-size in
-    let after = next s (s .head) (set (s .item) place b) in
-    cond (eqb (place + 1) sample-size) (after-sample start after (t .memory)) (record { state = after; memory = t .memory })
+-- The place in a write, and in a sample: the remainder of the bytes since the first of them, by its size.
+abbrev pub write-place : State → ℕ
+write-place s = (s .taken - header-length (version-of (s .head))) % write-size
 
--- A byte behind the header: of a write, of a sample; counted only, once a write or sample was refused, and behind the last sample.
-unfoldable pub item-byte : ℕ → Taken → ℕ → Taken
-item-byte start t b =
-    let s = t .state in
-    cond (eqb (s .number) 0 && ltb (s .taken) (whole (s .head)))
-    (cond (ltb (s .taken) (sample-start (s .head) 0)) (record { state = write-byte s b; memory = t .memory }) (sample-byte start t b))
-    (record { state = next s (s .head) (s .item); memory = t .memory })
+abbrev pub sample-place : State → ℕ
+sample-place s = (s .taken - sample-start (s .head) 0) % sample-size
 
--- The next byte: of the header, or behind it.
+-- The first line whose test holds: no byte more is wanted; the header is not complete; a write or sample was refused; the writes are not complete; the samples are not.
+unfoldable pub falls : State → Falls
+falls s =
+    cond (not (wants (s .head) (s .taken))) not-wanted
+    (cond (ltb (s .taken) (header-length (version-of (s .head)))) in-header
+    (cond (not (eqb (s .number) 0)) counted-only
+    (cond (ltb (s .taken) (sample-start (s .head) 0)) (in-write (write-place s))
+    (cond (ltb (s .taken) (whole (s .head))) (in-sample (sample-place s))
+    counted-only))))
+
+-- A byte of the header; one put at its place of a write or sample, the last of which makes the write, or runs the sample; and one that is counted only.
+abbrev pub header-byte : State → ℕ → State
+header-byte s b = next s (set (s .head) (s .taken) b) (s .item)
+
+abbrev pub put-byte : State → ℕ → ℕ → State
+put-byte s place b = next s (s .head) (set (s .item) place b)
+
+unfoldable pub write-byte : State → ℕ → ℕ → State
+write-byte s place b = cond (eqb (place + 1) write-size) (after-write (put-byte s place b)) (put-byte s place b)
+
+unfoldable pub sample-byte : ℕ → Taken → ℕ → ℕ → Taken
+sample-byte start t place b =
+    let s = put-byte (t .state) place b in
+    cond (eqb (place + 1) sample-size) (after-sample start s (t .memory)) (record { state = s; memory = t .memory })
+
+abbrev pub counted-byte : State → State
+counted-byte s = next s (s .head) (s .item)
+
+-- The next byte, by where it falls: one that is not wanted leaves all as it is.
+unfoldable pub byte-at : Falls → ℕ → Taken → ℕ → Taken
+byte-at in-header start t b = record { state = header-byte (t .state) b; memory = t .memory }
+byte-at (in-write place) start t b = record { state = write-byte (t .state) place b; memory = t .memory }
+byte-at (in-sample place) start t b = sample-byte start t place b
+byte-at counted-only start t b = record { state = counted-byte (t .state); memory = t .memory }
+byte-at not-wanted start t b = t
+
 unfoldable pub take-byte : ℕ → Taken → ℕ → Taken
-take-byte start t b =
-    let s = t .state in
-    cond (wants (s .head) (s .taken))
-    (cond (ltb (s .taken) (header-length (version-of (s .head))))
-    (record { state = next s (set (s .head) (s .taken) b) (s .item); memory = t .memory })
-    (item-byte start t b))
-    t
+take-byte start t b = byte-at (falls (t .state)) start t b
 
 -- The bytes of a part in order, and one part after the other.
 unfoldable pub take-bytes : ℕ → Taken → List ℕ → Taken

@@ -1,10 +1,11 @@
 // Running a trace file by parts: a state takes the file's bytes as they come, cut in any way, and the end answers as for the whole file. The state never answers a
 // refusal of the file: it remembers the first refused write or sample and goes on counting. A part's samples are run by stretches, its other bytes one at a time.
+ghost use mathlib.Core.Bool.{true};
 ghost use mathlib.Core.List.{List};
 ghost use mathlib.Core.Path.{_≡_};
 ghost use Prim.Native.Nat.{ℕ, _+_, _*_, _≤_, _<_, _^_, min};
 ghost use lib.Dec.{eqb};
-ghost use lib.ListN.{length, take, drop, set};
+ghost use lib.ListN.{length, take, drop};
 ghost use Rattle.refusals.specs.Table.{outcome as number};
 ghost use Rattle.rules.specs.RegisterCalls as register-rules;
 ghost use Rattle.trace_format.specs.Format as format;
@@ -153,7 +154,7 @@ fn after_sample(parts: Parts, memory: &mut [u8], start: usize) -> Parts
 // A byte of the header, of a write, of a sample.
 fn header_byte(parts: Parts, b: u8) -> Parts
     requires { ⌜ parts .taken < 10 ⌝ }
-    ensures { λ r. ⌜ parts-answers.state r ≡ parts-rules.next (parts-answers.state parts) (set (parts .head) (parts .taken) b) (parts .item) ⌝ }
+    ensures { λ r. ⌜ parts-answers.state r ≡ parts-rules.header-byte (parts-answers.state parts) b ⌝ }
 {
     let mut head = parts.head;
     let item = parts.item;
@@ -164,7 +165,7 @@ fn header_byte(parts: Parts, b: u8) -> Parts
 
 fn write_byte(parts: Parts, b: u8) -> Parts
     requires { ⌜ (format.header-length (reading.version-of (parts .head)) ≤ parts .taken) × (parts .taken < 2 ^ 35) ⌝ }
-    ensures { λ r. ⌜ parts-answers.state r ≡ parts-rules.write-byte (parts-answers.state parts) b ⌝ }
+    ensures { λ r. ⌜ parts-answers.state r ≡ parts-rules.write-byte (parts-answers.state parts) (parts-rules.write-place (parts-answers.state parts)) b ⌝ }
 {
     let head = parts.head;
     let place = (parts.taken - header_length(&head)) % 5;
@@ -179,7 +180,7 @@ fn write_byte(parts: Parts, b: u8) -> Parts
 
 fn sample_byte(parts: Parts, b: u8, memory: &mut [u8], start: usize) -> Parts
     requires { ⌜ (reading.sample-start (parts .head) 0 ≤ parts .taken) × (parts .taken < 2 ^ 35) ⌝ }
-    ensures { λ r. ⌜ parts-answers.taken r (now (memory .exit)) ≡ parts-rules.sample-byte start (parts-answers.taken parts (now (memory .entry))) b ⌝ }
+    ensures { λ r. ⌜ parts-answers.taken r (now (memory .exit)) ≡ parts-rules.sample-byte start (parts-answers.taken parts (now (memory .entry))) (parts-rules.sample-place (parts-answers.state parts)) b ⌝ }
 {
     let head = parts.head;
     let place = (parts.taken - samples_start(&head)) % 3;
@@ -202,10 +203,10 @@ fn fine(outcome: Outcome) -> bool
     true
 }
 
-// A byte behind the header.
+// A wanted byte behind the header.
 fn item_byte(parts: Parts, b: u8, memory: &mut [u8], start: usize) -> Parts
-    requires { ⌜ (format.header-length (reading.version-of (parts .head)) ≤ parts .taken) × (parts .taken ≤ reading.whole (parts .head)) ⌝ }
-    ensures { λ r. ⌜ parts-answers.taken r (now (memory .exit)) ≡ parts-rules.item-byte start (parts-answers.taken parts (now (memory .entry))) b ⌝ }
+    requires { ⌜ (parts-rules.wants (parts .head) (parts .taken) ≡ true) × (format.header-length (reading.version-of (parts .head)) ≤ parts .taken) ⌝ }
+    ensures { λ r. ⌜ parts-answers.taken r (now (memory .exit)) ≡ parts-rules.take-byte start (parts-answers.taken parts (now (memory .entry))) b ⌝ }
 {
     let head = parts.head;
     let item = parts.item;

@@ -1,10 +1,10 @@
 -- `parts::take_byte` meets its contract.
 use mathlib.Core.Path.{sym, _∙_}
-use borrow.Author.Tests.{le-ltb, lt-ltb}
+use borrow.Author.Tests.{lt-ltb}
 use native.Mathlib.Omega.{arith}
 use borrow.Author.Needs.{needs}
-use Rattle.file_rules.specs.Parts.{take-byte}
-use Rattle.file_rules.proofs.Header.{header-ten, wants-within}
+use Rattle.file_rules.specs.Parts.{falls, byte-at, take-byte}
+use Rattle.file_rules.proofs.Header.{header-ten}
 use Rattle.parts.proofs.take_byte.Statement.{statement}
 use Rattle.parts.proofs.take_byte.Tie as tie
 
@@ -12,18 +12,17 @@ header-byte-requires : tie.Need-header-byte-requires
 header-byte-requires c κs = omega (arith, c .if2 .taken, c .before .before .header-length .ensures .0, header-ten (c .before .before .before .before .before .before .before .before .before .args .parts .head))
 
 returns : tie.Need-returns
-unfolding take-byte
+unfolding take-byte falls byte-at
 returns c = rw (c .header-byte .ensures, ← c .before .before .before .before .before .before .wants .ensures, c .before .before .before .before .before .if1 .taken, ← c .before .before .before .header-length .ensures .0, lt-ltb _ _ (c .before .if2 .taken))
 
 item-byte-requires : tie.Need-item-byte-requires
-item-byte-requires c κs = let low = rw (c .before .before .before .header-length .ensures .0) at (c .before .if2 .left) in (low, wants-within _ _ (sym (c .before .before .before .before .before .before .wants .ensures) ∙ c .before .before .before .before .before .if1 .taken) low .1)
+item-byte-requires c κs = (sym (c .before .before .before .before .before .before .wants .ensures) ∙ c .before .before .before .before .before .if1 .taken, rw (c .before .before .before .header-length .ensures .0) at (c .before .if2 .left))
 
 returns-2 : tie.Need-returns-2
-unfolding take-byte
-returns-2 c = rw (c .before .before .item-byte .ensures, ← c .before .before .before .before .before .before .before .before .before .wants .ensures, c .before .before .before .before .before .before .before .before .if1 .taken, ← c .before .before .before .before .before .before .header-length .ensures .0, le-ltb _ _ (c .before .before .before .before .if2 .left))
+returns-2 c = c .before .before .item-byte .ensures
 
 returns-3 : tie.Need-returns-3
-unfolding take-byte
+unfolding take-byte falls byte-at
 returns-3 c = rw (← c .before .wants .ensures, c .if1 .left)
 
 pub take-byte-spec : {M : Type 1} → statement M
