@@ -1,18 +1,11 @@
 #!/usr/bin/env bash
 # docs/BENCH.md: its programs are the files of examples/, word for word, which are built without a warning and run; the commands of the ice bath and of the
 # codes are run; what they print is what the page shows. The page's table of refusals has the header's numbers and texts.
-set -u
-cd "$(dirname "$0")/.." || exit 2
-. tests/c/library.sh
-page=docs/BENCH.md
-out=target/tests
-fail() {
-    echo "FAILED: $*"
-    exit 1
-}
+. "$(dirname "$0")/c/library.sh"
 
-mkdir -p "$out" || fail "cannot make $out"
-make_library || fail "rt staticlib dcmi (target/staticlib.log)"
+page=docs/BENCH.md
+
+need_library
 make -s -B -C examples CC='gcc -Werror' || fail "make -C examples"
 
 # A block of the page that begins with a line of the language's name alone: ```c or ```make.
@@ -81,7 +74,7 @@ awk -F ' *[|] *' '$0 == "## Refusals" { on = 1; next } /^## / { on = 0 } on && $
     printf '    return texts == %s ? 0 : (printf("the header has %%u texts\\n", texts), 1);\n' "$(wc -l <"$out/refusals.shown")"
     echo '}'
 } >"$out/refusals.c"
-gcc -std=c11 -Wall -Wextra -pedantic -Werror -Iinclude "$out/refusals.c" -o "$out/refusals" || fail "compiling $out/refusals.c"
+gcc $c11 "$out/refusals.c" -o "$out/refusals" || fail "compiling $out/refusals.c"
 "$out/refusals" || fail "the table of refusals of $page and dcmi_refusal_text differ at the row above"
 
 echo "docs/BENCH.md: the programs are those of examples/ and print the $shown lines that the page shows, the $(cat "$out/ice_bath.shown" "$out/codes.shown" | grep -c '^\$ ') commands what stands under them; $(wc -l <"$out/refusals.shown") refusals have the header's texts."

@@ -1,16 +1,8 @@
 #!/usr/bin/env bash
 # The frame printer, on the samples of the repository and on made files, against what the paper prints and what the model of tests/c says.
-set -u
-cd "$(dirname "$0")/.." || exit 2
-printer=$PWD/target/bin/frame_printer
-out=target/tests
-fail() {
-    echo "FAILED: $*"
-    exit 1
-}
+. "$(dirname "$0")/c/library.sh"
 
-[ -x "$printer" ] || fail "target/bin/frame_printer is not there: rt check frame_printer makes it"
-mkdir -p "$out" || fail "cannot make $out"
+need_printer
 
 # The samples: the last line is the last landed word; in ITU 656's own order none lands, and the last line has the flags, ERR alone.
 for sample in trace_t:091B0AAB ice_bath_12_bits:0AAB0AAB ice_bath_10_bits:02AB02AB codes_in_pairs:38803780 'itu_656_order:flags 04'; do
@@ -21,5 +13,5 @@ done
 cmp -s samples/trace_t.fgt crates/frame_printer/stdin || fail "samples/trace_t.fgt is not the paper's file"
 echo "The frame printer: the ice bath reads 2731 at twelve bits and 683 at ten; two lines with codes in pairs land, and in the order of ITU 656 none."
 
-gcc -std=c11 -O1 -Wall -Wextra -pedantic -Werror -Iinclude -Itests/c tests/c/printer.c tests/c/printed.c tests/c/inputs.c tests/c/model.c -o "$out/printer" || fail "compiling tests/c/printer.c"
+compile printer tests/c/printer.c tests/c/printed.c tests/c/inputs.c tests/c/model.c
 "$out/printer" "$printer" "$out" || fail "the comparison (alone: $out/printer $printer $out CASE)"

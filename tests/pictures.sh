@@ -1,23 +1,14 @@
 #!/usr/bin/env bash
 # W4, compressed pictures: the JPEG file of tests/pictures through the library and through the frame printer; memory holds the file. Where djpeg is
-# installed, it reads what memory holds. Writes only below target. The exit status is 0 only if everything passed.
-set -u
-cd "$(dirname "$0")/.." || exit 2
-. tests/c/library.sh
+# installed, it reads what memory holds.
+. "$(dirname "$0")/c/library.sh"
 
 picture=tests/pictures/small.jpg
-printer=$PWD/target/bin/frame_printer
-out=target/tests
-fail() {
-    echo "FAILED: $*"
-    exit 1
-}
 
-mkdir -p "$out" || fail "cannot make $out"
-[ -x "$printer" ] || fail "target/bin/frame_printer is not there: rt check frame_printer makes it"
-make_library || fail "rt staticlib dcmi (target/staticlib.log)"
+need_printer
+need_library
 
-gcc -std=c11 -O2 -g -Wall -Wextra -pedantic -Werror -Iinclude tests/c/pictures.c tests/c/inputs.c "$LIBRARY" -o "$out/pictures" || fail "compiling tests/c/pictures.c"
+compile pictures tests/c/pictures.c tests/c/inputs.c "$library"
 "$out/pictures" "$picture" "$out" || fail "the pictures (above; alone: $out/pictures $picture $out)"
 
 for version in 1 2; do

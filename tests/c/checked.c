@@ -56,7 +56,7 @@ typedef struct both_sides {
 static both_sides memories[BUFFERS];
 static both_sides *const a = &memories[BUFFER_A], *const b = &memories[BUFFER_B];
 
-static bool far_missing;
+static uint64_t far_missing COUNTER; /* memories that the system does not give */
 
 /* ---- reports ---- */
 
@@ -231,7 +231,7 @@ static uint8_t *far_pages(void)
 {
     const int flags = MAP_PRIVATE | MAP_ANONYMOUS | MAP_NORESERVE;
     uint8_t *pages = mmap(NULL, far_size, PROT_READ | PROT_WRITE, flags, -1, 0);
-    far_missing |= pages == MAP_FAILED;
+    far_missing += pages == MAP_FAILED;
     return pages;
 }
 

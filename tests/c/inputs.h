@@ -46,6 +46,8 @@ size_t packets(uint32_t cr, uint32_t bytes, uint32_t grant, uint32_t *samples);
 
 /* W6. ESCR and ESUR: as for the codes of ITU 656, four codes, often with 0xFF for FSC or FEC and few unmask bits, or anything. */
 void any_codes(uint32_t *escr, uint32_t *esur);
+/* ESCR of four codes: frame start 0x51, line start 0x52, line end 0x53, frame end 0x54. */
+enum { FOUR_CODES = 0x54535251 };
 /* A byte of which codes are made: FF, 00, one of ESCR with any masked bits, or any. */
 uint32_t code_byte(uint32_t escr, uint32_t esur);
 /* The bytes of a picture with codes, its lines about so long; returns how many there are. Often its data have bytes of which codes are made. A damaged one

@@ -44,6 +44,10 @@ typedef struct call {
 /* Counts what a call reached; what is wrong with its answer, or a null pointer. */
 const char *reached_call(const call *made);
 
+/* Where a counter is kept (GNU C, ELF), and all of them, one after another: the processes of one comparison add theirs up. */
+#define COUNTER __attribute__((section("counters")))
+uint64_t *reached_counters(size_t *count);
+
 /* Prints the counts; false if something that is expected was never reached. */
 bool reached_summary(void);
 
