@@ -1,8 +1,7 @@
 #!/usr/bin/env bash
 # The sources are in the formatter's layout, no public function that a user may call has a `requires`, no proof has a hole, and an alias of a file of
 # definitions means the same file everywhere.
-set -u
-cd "$(dirname "$0")/.." || exit 2
+. "$(dirname "$0")/c/library.sh"
 bad=0
 say() {
     echo "$*"
@@ -11,24 +10,35 @@ say() {
 
 rt fmt --check >/dev/null 2>&1 || say "rt fmt would change a file: rt fmt --check tells which"
 
-# What is reachable from outside: lib.rt of each crate, and the modules that it declares `pub mod` or passes on by `pub use`. The crates
-# `buffers`, `capture`, `coded_capture`, `device_words`, `full_word`, `output`, `packing`, `sampling`, `trace_format`, `two_buffers` and `well_formed` are for the crates of this repository alone, and are left out.
-checked=0
-for lib in crates/*/src/lib.rt; do
-    folder=$(dirname "$lib")
-    case $folder in crates/buffers/src | crates/capture/src | crates/coded_capture/src | crates/device_words/src | crates/full_word/src | crates/output/src | crates/packing/src | crates/sampling/src | crates/trace_format/src | crates/two_buffers/src | crates/well_formed/src) continue ;; esac
-    files=$lib
-    for module in $(sed -n 's/^pub mod \([a-z_]*\);.*/\1/p; s/^pub use \([a-z_]*\)::.*/\1/p' "$lib" | sort -u); do
-        [ -f "$folder/$module.rt" ] && files="$files $folder/$module.rt"
-    done
-    for file in $files; do
-        checked=$((checked + 1))
-        awk '
+# The public functions of a crate that have a `requires`: of lib.rt, and of the modules that it declares `pub mod` or passes on by `pub use`.
+with_requires() {
+    local source=crates/$1/src module
+    for module in lib $(sed -n 's/^pub mod \([a-z_]*\);.*/\1/p; s/^pub use \([a-z_]*\)::.*/\1/p' "$source/lib.rt" | sort -u); do
+        [ -f "$source/$module.rt" ] && awk '
             /^[ ]*pub (extern "C" )?fn / { open = 1; line = FILENAME ":" FNR ": " $0 }
             open && /^[ ]*requires/ { print line; open = 0 }
             /^[ ]*\{[ ]*$/ { open = 0 }
-        ' "$file" | grep . && say "a public function has a requires"
+        ' "$source/$module.rt"
     done
+}
+
+# The crates for those of this repository alone, `inside` in crates.txt, may have such functions, and have one; what users may call has none.
+inside=" $(sed -n 's/^# inside: //p' crates.txt | tr '\n' ' ')"
+users=0
+for lib in crates/*/src/lib.rt; do
+    crate=${lib#crates/}
+    crate=${crate%%/*}
+    found=$(with_requires "$crate")
+    case $inside in
+    *" $crate "*) [ -n "$found" ] || say "crates.txt has $crate inside, but no public function of it has a requires" ;;
+    *)
+        users=$((users + 1))
+        [ -z "$found" ] || say "a function that users may call has a requires: $found"
+        ;;
+    esac
+done
+for crate in $inside; do
+    [ -f "crates/$crate/src/lib.rt" ] || say "crates.txt has $crate inside, and there is no such library"
 done
 
 holes=$(grep -rnE '(^|[^-A-Za-z])\?[[:space:]]*$' --include='*.antt' crates)
@@ -39,5 +49,5 @@ aliases=$(cat crates/*/src/*.rt crates/*/specs/*.antt | sed -nE 's/·specs\.spec
 twice=$(cut -d ' ' -f 1 <<<"$aliases" | uniq -d)
 [ -z "$twice" ] || say "an alias has two files: $twice"
 
-echo "layout: $checked source files reachable from outside, $(find crates -name '*.antt' | wc -l) files of definitions and proofs"
+echo "layout: $users crates for users, $(wc -w <<<"$inside") inside, $(find crates -name '*.antt' | wc -l) files of definitions and proofs"
 exit $bad
