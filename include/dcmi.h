@@ -20,24 +20,29 @@ extern "C" {
 /* The answer of every call. */
 enum {
     DCMI_OK = 0,
-    DCMI_MALFORMED = 1,    /* the device is malformed, or its image encodes no device */
-    DCMI_NO_REGISTER = 2,  /* no register at the offset */
-    DCMI_ACCESS = 3,       /* read of ICR, or write of SR, RIS, MIS */
-    DCMI_RESERVED = 4,     /* a reserved bit of the written value is 1 */
-    DCMI_UNSUPPORTED = 5,  /* CR with FCRC 3, CAPTURE 1 and ENABLE 0, JPEG 1 and not both EDM 0 and CROP 0, or ESS 1 and not both EDM 0 and JPEG 0 */
-    DCMI_ENABLED = 6,      /* ENABLE is 1, and ESCR, ESUR, CWSTRT or CWSIZE is written, even with the value it holds, a CR bit other than 0 and 14
-                            * would change, or the buffer mode is set */
-    DCMI_SAMPLE_BITS = 7,  /* a sample has a bit above 17 */
-    DCMI_SAMPLES = 8,      /* samples in all would pass 4,294,967,295 */
-    DCMI_START = 9,        /* start byte above the memory length; of two memories, either start above its own length */
-    DCMI_MARK = 10,        /* the file's mark is not FGT */
-    DCMI_VERSION = 11,     /* the file's version is neither 1 nor 2 */
-    DCMI_COUNT = 12,       /* version 1 with more than 16,384 samples, version 2 with no more, or more than 4,294,967,295 given to the writer */
-    DCMI_LENGTH = 13,      /* fewer than 8 bytes, fewer than 10 in version 2, or length not as the header says */
-    DCMI_WRITES = 14,      /* more than 255 writes given to the writer */
-    DCMI_ROOM = 15,        /* the writer's output does not fit */
-    DCMI_MODE = 16,        /* one memory is lent in mode two, or two in mode one; or dcmi_latest_frame is called in mode one */
-    DCMI_DEPTH = 18        /* depth 0 or above 32 where a device is made */
+    DCMI_MALFORMED = 1,     /* the device is malformed, or its image encodes no device */
+    DCMI_NO_REGISTER = 2,   /* no register at the offset */
+    DCMI_ACCESS = 3,        /* read of ICR, or write of SR, RIS, MIS */
+    DCMI_RESERVED = 4,      /* a reserved bit of the written value is 1 */
+    DCMI_UNSUPPORTED = 5,   /* CR with FCRC 3, CAPTURE 1 and ENABLE 0, JPEG 1 and not both EDM 0 and CROP 0, or ESS 1 and not both EDM 0 and JPEG 0 */
+    DCMI_ENABLED = 6,       /* ENABLE is 1, and ESCR, ESUR, CWSTRT or CWSIZE is written, even with the value it holds, a CR bit other than 0 and 14
+                             * would change, or the buffer mode is set */
+    DCMI_SAMPLE_BITS = 7,   /* a sample has a bit above 17 */
+    DCMI_SAMPLES = 8,       /* samples in all would pass 4,294,967,295 */
+    DCMI_START = 9,         /* start byte above the memory length; of two memories, either start above its own length */
+    DCMI_MARK = 10,         /* the file's mark is not FGT */
+    DCMI_VERSION = 11,      /* the file's version is neither 1 nor 2 */
+    DCMI_COUNT = 12,        /* version 1 with more than 16,384 samples, version 2 with no more, or more than 4,294,967,295 given to the writer */
+    DCMI_LENGTH = 13,       /* fewer than 8 bytes, fewer than 10 in version 2, or length not as the header says */
+    DCMI_WRITES = 14,       /* more than 255 writes given to the writer */
+    DCMI_ROOM = 15,         /* the writer's output does not fit */
+    DCMI_MODE = 16,         /* one memory is lent in mode two, or two in mode one; or dcmi_latest_frame is called in mode one */
+    DCMI_NO_SAMPLE = 17,    /* a sample number 0 or beyond the file; given by no call yet (W3) */
+    DCMI_DEPTH = 18,        /* depth 0 or above 32 where a device is made */
+    DCMI_PICTURE_SIZE = 19, /* EDM above 3, a side 0 or above 2048, or pixels that do not exactly fill the words given, or whole words on reading;
+                             * given by no call yet (W11, W13) */
+    DCMI_PICTURE = 20,      /* a picture's header or length is not ours, or a pixel is above its maximum; given by no call yet (W11, W13) */
+    DCMI_SHEET = 21         /* more than 65,536 frames in a sheet, or more than 4,194,304 pixels in a frame; given by no call yet (W13) */
 };
 
 /* Register offsets. */
@@ -182,7 +187,11 @@ static inline const char *dcmi_refusal_text(uint32_t number)
     case DCMI_WRITES: return "more than 255 writes given to the writer";
     case DCMI_ROOM: return "the output buffer is shorter than the file";
     case DCMI_MODE: return "one memory was lent in mode two, or two in mode one; or the latest frame was asked for in mode one";
+    case DCMI_NO_SAMPLE: return "a sample number of 0, or beyond the file";
     case DCMI_DEPTH: return "a depth of 0 or above 32, where a device is made";
+    case DCMI_PICTURE_SIZE: return "an EDM above 3, a side of 0 or above 2048, or pixels that do not exactly fill the words given, or whole words on reading";
+    case DCMI_PICTURE: return "a picture's header or length is not ours, or a pixel is above its maximum";
+    case DCMI_SHEET: return "more than 65,536 frames in a sheet, or more than 4,194,304 pixels in a frame";
     default: return "no refusal has this number";
     }
 }
@@ -205,9 +214,10 @@ uint32_t dcmi_interrupt(const dcmi_device *device, uint32_t *line);
 /* The place of the next word becomes 0; in mode two both places, and no frame is complete. Refusal 1. */
 uint32_t dcmi_rearm(dcmi_device *device);
 
-/* The buffer mode: one memory, as after reset, or two frame buffers in turn, A first. It is set anew, and re-arms, also if it is the same. Refusals 1, 6
- * in order. */
+/* The buffer mode becomes one: one memory, as after reset. It is set anew, and re-arms, also if it is the same. Refusals 1, 6 in order. */
 uint32_t dcmi_one_buffer(dcmi_device *device);
+
+/* The buffer mode becomes two: frame buffers A and B in turn, A first. It is set anew, and re-arms, also if it is the same. Refusals 1, 6 in order. */
 uint32_t dcmi_two_buffers(dcmi_device *device);
 
 /* In mode two: where the latest complete frame is in the memories of the runs, of which the lengths and starts are given, into *frame. Refusals 1, 16, 9 in
@@ -243,7 +253,8 @@ static inline uint32_t dcmi_run(dcmi_device *device, uint8_t *memory, size_t len
     return dcmi_run_slices(device, length ? memory : &none, length, start, count ? samples : &nothing, count);
 }
 
-/* The same over two memories, which must not overlap, each from its start byte on, in mode two. Refusals 1, 16, 9, 7, 8 in order. */
+/* In mode two: one sample over two memories, which must not overlap, each from its start byte on, its two answers into *answer. Refusals 1, 16, 9, 7, 8 in
+ * order. */
 static inline uint32_t dcmi_sample_two(dcmi_device *device, uint8_t *memory_a, size_t length_a, size_t start_a, uint8_t *memory_b, size_t length_b,
                                        size_t start_b, uint32_t sample, dcmi_answer *answer)
 {
@@ -253,6 +264,7 @@ static inline uint32_t dcmi_sample_two(dcmi_device *device, uint8_t *memory_a, s
                                   answer);
 }
 
+/* In mode two: a run of samples over two memories, which must not overlap, each from its start byte on. Refusals 1, 16, 9, 7, 8 in order. */
 static inline uint32_t dcmi_run_two(dcmi_device *device, uint8_t *memory_a, size_t length_a, size_t start_a, uint8_t *memory_b, size_t length_b,
                                     size_t start_b, const uint32_t *samples, size_t count)
 {

@@ -9,6 +9,7 @@ static_assert(DCMI_UNSUPPORTED == 5 && DCMI_ENABLED == 6 && DCMI_SAMPLE_BITS == 
 static_assert(DCMI_MARK == 10 && DCMI_VERSION == 11 && DCMI_COUNT == 12 && DCMI_LENGTH == 13, "refusals of files");
 static_assert(DCMI_WRITES == 14 && DCMI_ROOM == 15, "refusals of the writer");
 static_assert(DCMI_MODE == 16 && DCMI_DEPTH == 18, "refusals of a mode and of a depth");
+static_assert(DCMI_NO_SAMPLE == 17 && DCMI_PICTURE_SIZE == 19 && DCMI_PICTURE == 20 && DCMI_SHEET == 21, "refusals that no call gives yet");
 static_assert(DCMI_NO_FRAME == 0 && DCMI_FRAME_IN_A == 1 && DCMI_FRAME_IN_B == 2, "frames handed back");
 static_assert(DCMI_TOO_SHORT_A == 3 && DCMI_TOO_SHORT_B == 4, "memories too short for one");
 static_assert(DCMI_CR == 0x00 && DCMI_SR == 0x04 && DCMI_RIS == 0x08 && DCMI_IER == 0x0C && DCMI_MIS == 0x10, "offsets");

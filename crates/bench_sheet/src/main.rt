@@ -1,7 +1,7 @@
 // The bench sheet, run: each call's answer and what the device and memory hold after it are printed, and compared with the stored output.
 use device::Reading;
 use libc::STDOUT_FILENO;
-use output::word_at;
+use numbers::four;
 use refusals::Outcome;
 use registers::Register;
 use rules::Device;
@@ -81,9 +81,9 @@ fn run(d: Device, start: usize, samples: &[u32]) -> Device {
     text(b", discarded ");
     decimal(counts.discarded);
     text(b", memory ");
-    hex(word_at(&memory, 0), 8);
+    hex(four(&memory, 0), 8);
     text(b" ");
-    hex(word_at(&memory, 4), 8);
+    hex(four(&memory, 4), 8);
     text(b"\n  ");
     read(e, Register::CR);
     text(b"  ");

@@ -1,1 +1,1 @@
-// Bits and fields of a number as definitions (specs/), and laws of tests joined by `||` and `&&` (proofs/). There is no code here.
+// Bits, fields and ranges of bits of a number and lists of tests, as definitions (specs/), and their laws (proofs/). There is no code here.

@@ -9,7 +9,7 @@ use lib.ListN.{take, drop}
 use borrow.Author.Tests.{ltb-false}
 use Rattle.bits.proofs.Booleans.{or-false}
 use Rattle.refusals.specs.Refusals.{refused, answered}
-use Rattle.output.specs.Output.{slot-count}
+use Rattle.output.specs.Output.{slot-count, in-memory, SampleAnswer}
 use Rattle.output.specs.WellFormed.{bad-depth}
 use Rattle.buffers.specs.declared.Turns.{Turns}
 use Rattle.rules.specs.declared.Device.{Device}
@@ -100,8 +100,8 @@ sample-in-one d memory start w = rw (same-refusal d memory start (w ∷ [])) (go
     r : run-rules.Stepped
     r = run-rules.step d (drop start memory) w
 
-    a : run-rules.SampleAnswer
-    a = record { landing = run-rules.in-memory start (r .landing); packed = r .packed }
+    a : SampleAnswer
+    a = record { landing = in-memory start (r .landing); packed = r .packed }
 
     go : (b : Bool) → _≡_ {A = OneSample}
         (record {

@@ -6,13 +6,13 @@ use mathlib.Core.Option.{Option}
 use mathlib.Core.Path.{_≡_, refl, sym, ap, subst, _∙_}
 use Prim.Native.Nat.{ℕ, _+_, _≤_, _<_, _^_}
 use native.Mathlib.Omega.{arith}
-use lib.Dec.{eqb, ltb}
+use lib.Dec.{eqb}
 use lib.ListN.{length}
 use borrow.Author.Tests.{ltb-false}
 use Rattle.bits.proofs.Booleans.{or-false}
 use Rattle.refusals.specs.Refusals.{Test, _⇒_, first, refused, answered}
 use Rattle.refusals.proofs.Accepted.{accepted as passed}
-use Rattle.samples.specs.Samples.{any-bad}
+use Rattle.run_refusals.specs.RunRefusals.{run-tests, refusal-of}
 use Rattle.output.specs.Output.{slot-count}
 use Rattle.output.specs.WellFormed.{Laid}
 use Rattle.buffers.specs.declared.Turns.{Turns}
@@ -46,12 +46,7 @@ refused-one b l ws e = in-mode (λ (x : Board). two-refusal x l ws ≡ cond (mal
 
 -- In mode two: 1, 9, 7, 8.
 abbrev tests-of : Board → Both → List ℕ → List Test
-tests-of b l ws =
-    malformed b ⇒ 1 ∷
-    (beyond (l .a) || beyond (l .b)) ⇒ 9 ∷
-    any-bad ws ⇒ 7 ∷
-    ltb 4294967295 (b .device .core .output .counts .samples + length ws) ⇒ 8 ∷
-    []
+tests-of b l ws = malformed b ⇒ 1 ∷ run-tests (beyond (l .a) || beyond (l .b)) (b .device .core .output .counts .samples) ws
 
 refused-two : (b : Board) (t : Turns) (l : Both) (ws : List ℕ) → b .mode ≡ Two t → two-refusal b l ws ≡ first (tests-of b l ws)
 unfolding two-refusal
@@ -59,7 +54,7 @@ refused-two b t l ws e = in-mode (λ (x : Board). two-refusal x l ws ≡ first (
 
 -- From the value of the test for malformed boards.
 pub refusal-by : (b : Board) (t : Turns) (l : Both) (ws : List ℕ) {bad : Bool} {n : ℕ} → b .mode ≡ Two t → bad ≡ malformed b
-    → n ≡ first (bad ⇒ 1 ∷ (beyond (l .a) || beyond (l .b)) ⇒ 9 ∷ any-bad ws ⇒ 7 ∷ ltb 4294967295 (b .device .core .output .counts .samples + length ws) ⇒ 8 ∷ [])
+    → n ≡ refusal-of bad (beyond (l .a) || beyond (l .b)) (b .device .core .output .counts .samples) ws
     → two-refusal b l ws ≡ n
 refusal-by b t l ws e is given = refused-two b t l ws e ∙ rw (← is) (sym given)
 

@@ -12,7 +12,7 @@ use Rattle.buffers.specs.declared.Buffer.the-variants.{A, B}
 use Rattle.buffers.specs.declared.Turns.{Turns}
 use Rattle.rules.specs.declared.Device.{Device}
 use Rattle.rules.specs.WellFormed.{malformed}
-use Rattle.full_word.specs.Answers.{packing}
+use Rattle.output.specs.Answers.{packing}
 use Rattle.device.specs.Answers.{reply}
 use Rattle.two_buffers.specs.Answers.{landing}
 use Rattle.board_rules.specs.declared.Board.{Board}

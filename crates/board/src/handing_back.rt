@@ -15,11 +15,11 @@ use crate::one_memory::unmatched;
 use board_rules::Board;
 use board_rules::Mode;
 use buffers::Buffer;
-use buffers::Latest;
 use buffers::Turns;
-use buffers::latest_complete;
 use refusals::Refusal;
 use rules::Device;
+use turning::Latest;
+use turning::latest_complete;
 
 // The place of the next word in a buffer.
 fn place_in(u: Buffer, d: Device, turns: Turns) -> u32

@@ -12,15 +12,15 @@ use crate::malformed;
 use board_rules::Board;
 use board_rules::Mode;
 use buffers::Turns;
-use buffers::discarded;
-use buffers::fresh_turns;
-use buffers::rearmed;
 use device::InterruptLine;
 use device::Reading;
+use fields::control;
 use refusals::Outcome;
 use refusals::Refusal;
-use registers::control;
 use rules::Device;
+use turning::discarded;
+use turning::fresh_turns;
+use turning::rearmed;
 
 // A register read: refusals 1, 2, 3, or the value.
 pub fn read(b: Board, offset: u32) -> Reading

@@ -1,13 +1,11 @@
 // A run of samples, and one sample, over two lent memories, each from its start byte on: in mode two.
 ghost use mathlib.Core.Bool.{_||_};
-ghost use mathlib.Core.List.{[], _∷_};
 ghost use mathlib.Core.Path.{_≡_};
 ghost use Prim.Native.Nat.{_+_};
 ghost use lib.Dec.{ltb};
 ghost use lib.ListN.{length};
-ghost use Rattle.refusals.specs.Refusals.{_⇒_, first};
 ghost use Rattle.refusals.specs.Table.{outcome};
-ghost use Rattle.samples.specs.Samples.{any-bad};
+ghost use Rattle.run_refusals.specs.RunRefusals.{refusal-of};
 ghost use Rattle.board_rules.specs.TwoBuffers as buffer-rules;
 ghost use Rattle.board_rules.specs.BoardRuns as board-runs;
 ghost use Rattle.two_buffers.specs.Answers as two-answers;
@@ -25,7 +23,7 @@ use buffers::Turns;
 use refusals::Outcome;
 use refusals::Refusal;
 use rules::Device;
-use sampling::refusal_of;
+use run_refusals::refusal_of;
 use two_buffers::Turned;
 use two_buffers::TwoLanding;
 use two_buffers::two_step;
@@ -41,7 +39,7 @@ fn refusal_of_both(
     start_b: usize,
     samples: &[u32],
 ) -> Outcome
-    ensures { λ r. ⌜ outcome r ≡ first (bad ⇒ 1 ∷ (ltb (length (now («memory_a» .entry))) «start_a» || ltb (length (now («memory_b» .entry))) «start_b») ⇒ 9 ∷ any-bad (now (samples .entry)) ⇒ 7 ∷ ltb 4294967295 (before + length (now (samples .entry))) ⇒ 8 ∷ []) ⌝ }
+    ensures { λ r. ⌜ outcome r ≡ refusal-of bad (ltb (length (now («memory_a» .entry))) «start_a» || ltb (length (now («memory_b» .entry))) «start_b») before (now (samples .entry)) ⌝ }
 {
     if bad {
         return Outcome::Refused(Refusal::Malformed);

@@ -9,7 +9,7 @@ use native.Mathlib.Omega.{arith}
 use lib.Dec.{eqb, ltb}
 use lib.ListN.{length}
 use borrow.Author.Tests.{le-ltb, ltb-false, eqb-true}
-use Rattle.bits.proofs.Booleans.{or-false, either}
+use Rattle.bits.proofs.Booleans.{or-false, either, both-false}
 use Rattle.buffers.specs.declared.Buffer.{Buffer}
 use Rattle.buffers.specs.Turns.{fresh-turns, oldest-buffer, oldest-place}
 use Rattle.refusals.specs.Refusals.{_⇒_}
@@ -24,7 +24,6 @@ use Rattle.rules.specs.Capture.{enabled}
 use Rattle.rules.specs.Run as run-rules
 use Rattle.rules.specs.RegisterCalls as register-rules
 use Rattle.rules.specs.RegisterCalls.{placed}
-use Rattle.rules.proofs.Booleans.{both-false}
 use Rattle.rules.proofs.WellFormed.{WellFormed, well-formed}
 use Rattle.laws.specs.Histories as device-histories
 use Rattle.laws.specs.Histories.{Event, sampled, samplings, accepted-samplings, disabling-of, events-of-all}

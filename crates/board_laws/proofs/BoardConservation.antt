@@ -8,7 +8,7 @@ use native.Mathlib.Omega.{arith}
 use lib.Dec.{eqb}
 use lib.ListN.{drop}
 use lib.Pow.{pow-pos}
-use Rattle.bits.proofs.Booleans.{or-false, either}
+use Rattle.bits.proofs.Booleans.{or-false, either, both-false}
 use Rattle.buffers.specs.declared.Turns.{Turns}
 use Rattle.buffers.specs.Turns as turn-rules
 use Rattle.buffers.specs.Turns.{fresh-turns, with-turn, with-tags, with-place-b, with-content}
@@ -22,10 +22,10 @@ use Rattle.rules.specs.Capture.{enabled}
 use Rattle.rules.specs.WellFormed as device-clauses
 use Rattle.rules.specs.Run as run-rules
 use Rattle.rules.specs.RegisterCalls as register-rules
-use Rattle.rules.proofs.Booleans.{both-false}
 use Rattle.rules.proofs.WellFormed.{WellFormed, facts, well-formed}
 use Rattle.laws.specs.Histories as device-histories
-use Rattle.laws.specs.Ledger.{Ledger, disabling-entry, enter, enter-all, numbers}
+use Rattle.output.specs.Ledger.{Ledger, discarding-entry, numbers}
+use Rattle.laws.specs.Ledger.{enter, enter-all}
 use Rattle.laws.proofs.Keeps.{fresh-well-formed, run-keeps}
 use Rattle.laws.proofs.KeepsSample.{step-keeps}
 use Rattle.laws.proofs.KeepsWrites.{write-keeps, rearmed-ok}
@@ -68,7 +68,7 @@ board-well d m f ok = both-false (device-clauses.malformed d) _ (well-formed d f
 -- A register write. Where ENABLE falls, nothing is held after it.
 turns-after : (falls : Bool) (o o′ : Output) (t : Turns) → enter-all (numbers o) (cond falls (device-histories.disabled ∷ []) []) ≡ numbers o′ → TurnsOk o t
     → TurnsOk o′ (cond falls (turn-rules.discarded t) t)
-unfolding enter-all enter disabling-entry turn-rules.discarded with-turn with-tags
+unfolding enter-all enter discarding-entry turn-rules.discarded with-turn with-tags
 turns-after true o o′ t e k =
     let more = pow-pos (o′ .held) in
     record { buffers = more; opening = more; place = omega (arith, k .place, ap (λ (l : Ledger). l .landed) e) }

@@ -27,7 +27,8 @@ use Rattle.rules.specs.Run as run-rules
 use Rattle.rules.specs.RegisterCalls as register-rules
 use Rattle.laws.specs.Histories as device-histories
 use Rattle.laws.specs.Histories.{Event, disabling-of}
-use Rattle.laws.specs.Ledger.{Ledger, disabling-entry, enter, enter-all, numbers}
+use Rattle.output.specs.Ledger.{Ledger, discarding-entry, numbers}
+use Rattle.laws.specs.Ledger.{enter, enter-all}
 use Rattle.laws.proofs.CountsFromHistory.{none-disabled}
 use Rattle.board_rules.specs.declared.Mode.{Mode}
 use Rattle.board_rules.specs.declared.Mode.the-variants.{One, Two}
@@ -87,7 +88,7 @@ write-empties falls d offset v =
 
 held-after : (falls : Bool) (d d′ : Device) → enter-all (numbers (d .core .output)) (cond falls (device-histories.disabled ∷ []) []) ≡ numbers (d′ .core .output)
     → d′ .core .output .held ≡ cond falls 0 (d .core .output .held)
-unfolding enter-all enter disabling-entry
+unfolding enter-all enter discarding-entry
 held-after true d d′ e = sym (ap (λ (l : Ledger). l .held) e)
 held-after false d d′ e = sym (ap (λ (l : Ledger). l .held) e)
 

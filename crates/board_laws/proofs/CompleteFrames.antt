@@ -30,7 +30,8 @@ use Rattle.rules.specs.RegisterCalls as register-rules
 use Rattle.rules.specs.RegisterCalls.{placed}
 use Rattle.laws.specs.Histories as device-histories
 use Rattle.laws.specs.Histories.{Event, disabling-of}
-use Rattle.laws.specs.Ledger.{disabling-entry, enter, enter-all, numbers}
+use Rattle.output.specs.Ledger.{discarding-entry, numbers}
+use Rattle.laws.specs.Ledger.{enter, enter-all}
 use Rattle.laws.proofs.CountsFromHistory.{none-disabled}
 use Rattle.board_rules.specs.declared.Mode.{Mode}
 use Rattle.board_rules.specs.declared.Mode.the-variants.{One, Two}
@@ -115,7 +116,7 @@ unfolding mode-after
 after-write falls d d′ One fs e p h = tt
 after-write true d d′ (Two t) fs e p h =
     explained-on (story.discarded ∷ []) h
-    (unfold enter-all enter disabling-entry keeps keep in λ i. record { turns = turn-rules.discarded t; place-a = p i; held = sym e i .held })
+    (unfold enter-all enter discarding-entry keeps keep in λ i. record { turns = turn-rules.discarded t; place-a = p i; held = sym e i .held })
     (unfold tell-all tell frame-events story.story in refl)
 after-write false d d′ (Two t) fs e p h =
     explained-on [] h

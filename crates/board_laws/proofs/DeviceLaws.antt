@@ -17,10 +17,11 @@ use Rattle.rules.specs.declared.Frame.the-variants.{Open}
 use Rattle.rules.specs.declared.Capture.{Capture}
 use Rattle.rules.specs.Capture.{working-edge, enabled, blanking, window-ended}
 use Rattle.rules.specs.Sample.{byte-of}
-use Rattle.rules.specs.Run.{Packed}
+use Rattle.output.specs.Output.{Packed}
 use Rattle.laws.specs.Histories as device-histories
 use Rattle.laws.specs.Histories.{Event, sampled, no-errors, without-codes}
-use Rattle.laws.specs.Ledger.{ledger, numbers}
+use Rattle.output.specs.Ledger.{numbers}
+use Rattle.laws.specs.Ledger.{ledger}
 use Rattle.laws.specs.FrameHistory.{frame-history}
 use Rattle.laws.specs.Seeking.{Runs}
 use Rattle.laws.proofs.CountsFromHistory as counts

@@ -24,6 +24,7 @@ use Rattle.buffers.proofs.Tags.{Tag, in-b, opening, weigh, weigh-first, tag-of,
 use Rattle.buffers.proofs.Sights.{Sight, sight-of, sight-in, skip, frame-landing, frame-eldest}
 use Rattle.buffers.proofs.Told.{Tells, oldest-is}
 use Rattle.buffers.proofs.Words.{held-words, words-none, words-word, words-landing, words-closed, words-end, words-armed}
+use Rattle.numbers.proofs.Numbers.{length-little}
 use Rattle.output.specs.Output.{bytes, all-bytes, room, stored}
 use Rattle.output.proofs.Bytes.{all-bytes-last}
 use Rattle.output.proofs.Granting.{has-room}
@@ -85,15 +86,11 @@ stands-end u m (f ∷ fs) h = by-cond (λ (l : List Tale). Stands m (frame-in u 
     go false h = h
 
 -- A landing: one word more stands in the buffer.
-four : (v : ℕ) → length (bytes v) ≡ 4
-unfolding bytes
-four v = refl
-
 one-stored : (n v : ℕ) (m : List ℕ) → 4 * n + 4 ≤ length m → take (4 * (n + 1)) (stored n v m) ≡ take (4 * n) m ++ bytes v
 unfolding stored
 one-stored n v m space =
     let front : length (take (4 * n) m) ≡ 4 * n = length-take-le (4 * n) m (omega arith) in
-    let long : length (take (4 * n) m ++ bytes v) ≡ 4 * (n + 1) = rw (length-append, front, four v) (omega arith) in
+    let long : length (take (4 * n) m ++ bytes v) ≡ 4 * (n + 1) = rw (length-append, front, length-little 4 v) (omega arith) in
     take-at (take (4 * n) m ++ bytes v) (drop (4 * n + 4) m) (4 * (n + 1)) long
 
 one-stands : (f : Tale) (m : List ℕ) → f .landed < completed f → f .since ≤ f .landed → room (f .since) m ≡ true → (eqb (f .landed) 0 ≡ false → Stands m (some f))

@@ -21,14 +21,14 @@ use Rattle.buffers.proofs.Told.{Tells, all-kept, tells-start}
 use Rattle.buffers.proofs.Words.{words-count}
 use Rattle.samples.specs.Samples.{bus-grant}
 use Rattle.output.specs.declared.Output.{Output}
-use Rattle.output.specs.Output.{OutputState, contents, with-held, holding, push, with-counts, with-place, count-sample, count-word, count-landed, count-discarded, room, stored, Granted, no-landing, lands, oldest-lands, grant, Offered, offer, discard}
+use Rattle.output.specs.Output.{OutputState, contents, with-held, holding, push, with-counts, with-place, count-sample, count-word, count-landed, count-discarded, room, stored, Granted, no-landing, lands, oldest-lands, grant, Offered, offer, discard, counted}
 use Rattle.output.proofs.Contents.{contents-holding}
 use Rattle.rules.specs.declared.Capture.{Capture}
 use Rattle.rules.specs.State.{capture-of, output-of}
 use Rattle.rules.specs.Capture.{Captured, enabled}
 use Rattle.rules.specs.Sample.{capture-sample}
 use Rattle.rules.specs.RegisterCalls.{placed}
-use Rattle.rules.specs.Run.{after-word, complete, after-grant, counted, step}
+use Rattle.rules.specs.Run.{after-word, complete, after-grant, step}
 use Rattle.laws.proofs.Errors.{no-word-in-error}
 use Rattle.board_rules.specs.State.{kept-of}
 use Rattle.board_rules.specs.TwoBuffers.{Pair, part, with-part, landing-event, word-event, has-closed, frame-event, sample-events, Two, two-step, two-steps}

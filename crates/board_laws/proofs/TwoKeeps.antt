@@ -19,15 +19,16 @@ use Rattle.buffers.specs.Turns as turn-rules
 use Rattle.buffers.specs.Turns.{is-b, with-turn, with-tags, with-place-b, with-latest, with-content, content, first-word, word-held, word-lost, oldest-buffer, oldest-opens, next-place, oldest-place, is-landing, frame-over, last-of-frame, word-landed, frame-ended}
 use Rattle.buffers.specs.Story as story
 use Rattle.buffers.specs.Kept.{Kept, landed-at, keep, keeps}
-use Rattle.output.specs.Output.{with-place}
+use Rattle.output.specs.Output.{with-place, Packed, nothing, completed, lost}
 use Rattle.rules.specs.declared.Capture.{Capture}
 use Rattle.rules.specs.State.{capture-of, is-open}
 use Rattle.rules.specs.Sample.{capture-sample}
 use Rattle.rules.specs.RegisterCalls.{placed}
-use Rattle.rules.specs.Run.{Packed, nothing, completed, lost, step}
+use Rattle.rules.specs.Run.{step}
 use Rattle.rules.proofs.WellFormed.{WellFormed}
 use Rattle.laws.specs.Histories.{sampled}
-use Rattle.laws.specs.Ledger.{Ledger, sample-entry, landing-entry, word-entry, disabling-entry, error-entry, enter, numbers}
+use Rattle.output.specs.Ledger.{Ledger, sample-entry, landing-entry, discarding-entry, numbers}
+use Rattle.laws.specs.Ledger.{word-entry, error-entry, enter}
 use Rattle.laws.proofs.KeepsSample.{step-keeps}
 use Rattle.laws.proofs.KeepsWrites.{placed-ok}
 use Rattle.laws.proofs.CountsFromHistory.{step-counted}
@@ -70,7 +71,7 @@ word-held-as lost l k e = refl
 
 frame-held : (s : Capture) (v : ℕ) (l : Ledger) (k : Kept) → k .held ≡ l .held
     → keeps k (frame-event s (capture-sample s v)) .held ≡ error-entry (capture-sample s v .error) l .held
-unfolding error-entry disabling-entry frame-event keeps keep
+unfolding error-entry discarding-entry frame-event keeps keep
 frame-held s v l k e = go (capture-sample s v .error) (is-open (s .frame) && not (is-open (capture-sample s v .state .frame)))
   where
     go : (b c : Bool) → keeps k (cond b (story.discarded ∷ []) (cond c (story.ended ∷ []) [])) .held ≡ error-entry b l .held
@@ -201,7 +202,7 @@ word-within lost l k w = record { turns = discarded-fits _ (first-fits (k .turns
 
 frame-within : (s : Capture) (v : ℕ) (l : Ledger) (k : Kept) → Within l k
     → Within (error-entry (capture-sample s v .error) l) (keeps k (frame-event s (capture-sample s v)))
-unfolding error-entry disabling-entry frame-event keeps keep
+unfolding error-entry discarding-entry frame-event keeps keep
 frame-within s v l k w = go (capture-sample s v .error) (is-open (s .frame) && not (is-open (capture-sample s v .state .frame)))
   where
     go : (b c : Bool) → Within (error-entry b l) (keeps k (cond b (story.discarded ∷ []) (cond c (story.ended ∷ []) [])))

@@ -20,7 +20,7 @@ use Rattle.buffers.specs.Turns as turn-rules
 use Rattle.buffers.specs.Turns.{fresh-turns, with-turn, with-tags, with-place-b}
 use Rattle.buffers.specs.Kept.{keep, keeps, landed-at}
 use Rattle.refusals.specs.Refusals as refusals
-use Rattle.rules.specs.Run.{Packed, nothing, lost}
+use Rattle.output.specs.Output.{Packed, nothing, lost}
 use Rattle.rules.proofs.EveryRule.{every-rule}
 use Rattle.rules.proofs.BenchSheet.{CR, RIS, CWSIZE, edges, blank, line-gap, idle, words-are, no-slots}
 use Rattle.rules.proofs.CodesSheet.{ESCR, ESUR, FS, LS, FE}

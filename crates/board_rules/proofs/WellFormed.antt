@@ -4,10 +4,9 @@ use mathlib.Core.Path.{_≡_}
 use Prim.Native.Nat.{_≤_, _<_, _^_}
 use lib.Dec.{ltb}
 use borrow.Author.Tests.{ltb-true, ltb-false, le-ltb, lt-ltb, not-false}
-use Rattle.bits.proofs.Booleans.{or-false}
+use Rattle.bits.proofs.Booleans.{or-false, both-false, not-is-false}
 use Rattle.buffers.specs.declared.Turns.{Turns}
 use Rattle.output.specs.declared.Output.{Output}
-use Rattle.rules.proofs.Booleans.{both-false, not-is-false}
 use Rattle.board_rules.specs.State.{bad-turns}
 
 pub record TurnsOk (o : Output) (t : Turns) : Type 0 where

@@ -10,7 +10,9 @@ use Rattle.buffers.specs.declared.Buffer.the-variants.{A, B}
 use Rattle.buffers.specs.declared.Turns.{Turns}
 use Rattle.buffers.specs.Turns.{fresh-turns}
 use Rattle.refusals.specs.Refusals.{_⇒_, first, Answer, answer}
-use Rattle.samples.specs.Samples.{any-bad}
+use Rattle.run_refusals.specs.RunRefusals.{run-tests}
+use Rattle.output.specs.Output as output-rules
+use Rattle.output.specs.Output.{Packed, SampleAnswer}
 use Rattle.rules.specs.Run as run-rules
 use Rattle.board_rules.specs.declared.Mode.{Mode}
 use Rattle.board_rules.specs.declared.Mode.the-variants.{One, Two}
@@ -42,7 +44,7 @@ run b memory start samples =
 
 -- One sample. Its answers, where it is accepted, are the device's.
 pub record OneSample : Type 0 where
-  pub answer : Answer run-rules.SampleAnswer
+  pub answer : Answer SampleAnswer
   pub board : Board
   pub memory : List ℕ
 
@@ -51,7 +53,7 @@ sample b memory start w =
     let number = one-refusal b memory start (w ∷ []) in
     let r = run-rules.step (b .device) (drop start memory) w in
     record {
-      answer = answer number (record { landing = run-rules.in-memory start (r .landing); packed = r .packed });
+      answer = answer number (record { landing = output-rules.in-memory start (r .landing); packed = r .packed });
       board = cond (eqb number 0) (record { device = r .device; mode = b .mode }) b;
       memory = cond (eqb number 0) (take start memory ++ r .buffer) memory;
     }
@@ -94,10 +96,7 @@ two-refusal b l samples =
     first
     (malformed b ⇒ 1 ∷
     not (is-two (b .mode)) ⇒ 16 ∷
-    (beyond (l .a) || beyond (l .b)) ⇒ 9 ∷
-    any-bad samples ⇒ 7 ∷
-    ltb 4294967295 (b .device .core .output .counts .samples + length samples) ⇒ 8 ∷
-    [])
+    run-tests (beyond (l .a) || beyond (l .b)) (b .device .core .output .counts .samples) samples)
 
 -- Board and frame buffers as the samples have them, and put back. In mode one no such call is accepted.
 unfoldable pub turns-of : Mode → Turns
@@ -128,7 +127,7 @@ run-two b l samples =
 -- One sample's answers: the landing's buffer and its byte in that memory.
 pub record TwoAnswer : Type 0 where
   pub landing : Option Landing
-  pub packed : run-rules.Packed
+  pub packed : Packed
 
 unfoldable pub in-memory : Both → Option Landing → Option Landing
 in-memory l none = none

@@ -15,7 +15,8 @@ use Rattle.rules.specs.State.{capture-of, is-open}
 use Rattle.rules.specs.Capture.{Captured}
 use Rattle.rules.specs.Sample.{capture-sample}
 use Rattle.rules.specs.RegisterCalls.{placed}
-use Rattle.rules.specs.Run.{Packed, nothing, completed, lost, step}
+use Rattle.output.specs.Output.{Packed, nothing, completed, lost}
+use Rattle.rules.specs.Run.{step}
 use Rattle.board_rules.specs.State.{kept-of}
 
 -- Two frame buffers, or memories; one of them, and with one changed.

@@ -3,8 +3,8 @@
 ghost use mathlib.Core.Path.{_≡_};
 ghost use lib.ListN.{drop, take};
 ghost use Rattle.board_rules.specs.declared.Mode.the-variants.{Two};
-ghost use Rattle.device_words.specs.Image.{image-words};
-ghost use Rattle.board_words.specs.BoardImage as board-image;
+ghost use Rattle.image_rules.specs.Image.{image-words};
+ghost use Rattle.image_rules.specs.BoardImage as board-image;
 use board_rules::Board;
 use board_rules::Mode;
 use buffers::Buffer;

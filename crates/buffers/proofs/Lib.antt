@@ -5,3 +5,4 @@ pub mod Told
 pub mod LatestFrame
 pub mod Words
 pub mod Found
+pub mod TurnsSheet

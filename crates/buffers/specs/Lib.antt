@@ -1,4 +1,3 @@
 pub mod Turns
-pub mod Answers
 pub mod Story
 pub mod Kept

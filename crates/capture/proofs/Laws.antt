@@ -13,7 +13,7 @@ use Rattle.rules.specs.declared.Capture.{Capture}
 use Rattle.rules.specs.CropWindow.{lines-to-window-end}
 use Rattle.rules.specs.State.{not-blanking, raise, with-registers, with-ris, with-pins, with-syncs}
 use Rattle.rules.specs.Capture.{no-word, vsync-flag, line-flag, sync-flags, window-ended, hsync-after-window, frame-rises, frame-due, frame-closes, rate-period, frame-start, blanking, remember-pins, any-blanks, pixel-in, pixel-edge}
-use Rattle.laws.specs.Before.{frame-end-before-W4, at-edge-by}
+use Rattle.rules.specs.Unpadded.{unpadded-end, unpadded-edge}
 use Rattle.bits.proofs.Booleans.{or-false, and-zero, either}
 use Rattle.rules.proofs.WellFormed.{CaptureOk}
 use Rattle.laws.proofs.Moved.{no-pixel}
@@ -41,9 +41,9 @@ same-blanking s w e = rw e
 
 -- An edge at which a sync blanks carries no pixel.
 pub edge-blanked : (s : Capture) (now : Syncs) (x : ℕ) → any-blanks now ≡ true
-    → at-edge-by frame-end-before-W4 s now x ≡ no-word (with-syncs now (frame-start (frame-end-before-W4 (sync-flags s now) now) now))
-unfolding at-edge-by pixel-edge no-word
-edge-blanked s now x blanks = let u = frame-start (frame-end-before-W4 (sync-flags s now) now) now in rw (no-pixel (u .frame) u now x blanks)
+    → unpadded-edge s now x ≡ no-word (with-syncs now (frame-start (unpadded-end (sync-flags s now) now) now))
+unfolding unpadded-edge pixel-edge no-word
+edge-blanked s now x blanks = let u = frame-start (unpadded-end (sync-flags s now) now) now in rw (no-pixel (u .frame) u now x blanks)
 
 -- Where neither blanks no flag rises and no frame ends.
 no-rise : (s : Capture) (f : Scan) → frame-rises s f not-blanking ≡ false
@@ -59,9 +59,9 @@ not-due Closed s = refl
 not-due (Open taken f) s = rw (no-rise s f, and-zero taken)
 
 pub plain-edge : (s : Capture) (x : ℕ)
-    → at-edge-by frame-end-before-W4 s not-blanking x
+    → unpadded-edge s not-blanking x
     ≡ (let p = pixel-in (frame-start s not-blanking .frame) (frame-start s not-blanking) not-blanking x in record { state = with-syncs not-blanking (p .state); word = p .word; due = false; error = false })
-unfolding at-edge-by pixel-edge frame-end-before-W4 frame-closes sync-flags line-flag vsync-flag
+unfolding unpadded-edge pixel-edge unpadded-end frame-closes sync-flags line-flag vsync-flag
 plain-edge s x = rw (and-zero (not (s .syncs .vsync)), and-zero (not (s .syncs .hsync)), not-due (s .frame) s)
 
 pub neither : (now : Syncs) → any-blanks now ≡ false → now ≡ not-blanking

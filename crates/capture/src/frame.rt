@@ -2,23 +2,34 @@
 ghost use mathlib.Core.Bool.{cond};
 ghost use mathlib.Core.Path.{_≡_};
 ghost use Prim.Native.Nat.{_+_, _<_, _≤_, _^_};
+ghost use Rattle.bits.specs.Bits.{lowered};
 ghost use Rattle.rules.specs.State as state;
 ghost use Rattle.rules.specs.CropWindow as crop-window;
 ghost use Rattle.rules.specs.Capture as capture-rules;
-ghost use Rattle.laws.specs.Before as before-rules;
+ghost use Rattle.rules.specs.Unpadded as unpadded-rules;
 use crate::apart;
 use crate::syncs::raise_frame;
-use registers::control;
-use registers::window;
+use fields::control;
+use fields::window;
 use rules::Capture;
 use rules::Frame;
 use rules::Partial;
 use rules::Scan;
 use rules::Syncs;
 
+// Whether a frame is open.
+pub fn is_open(frame: Frame) -> bool
+    ensures { λ r. ⌜ r ≡ state.is-open frame ⌝ }
+{
+    match frame {
+        Frame::Closed => false,
+        Frame::Open(_, _) => true,
+    }
+}
+
 // A CR value with CAPTURE 0.
 fn without_capture(cr: u32) -> u32
-    ensures { λ r. ⌜ r ≡ state.lowered 0 cr ⌝ }
+    ensures { λ r. ⌜ r ≡ lowered 0 cr ⌝ }
 {
     if control::capture(cr) {
         return cr - 1;
@@ -153,9 +164,9 @@ pub fn frame_closes(s: Capture, now: Syncs) -> Capture
 }
 
 // Rule 4 where no word is padded: FRAME, and then the frame's end.
-pub fn frame_end(s: Capture, now: Syncs) -> Capture
+pub fn unpadded_end(s: Capture, now: Syncs) -> Capture
     requires { ⌜ s .registers .ris ≤ 31 ⌝ }
-    ensures { λ r. ⌜ r ≡ before-rules.frame-end-before-W4 s now ⌝ }
+    ensures { λ r. ⌜ r ≡ unpadded-rules.unpadded-end s now ⌝ }
 {
     let frame = s.frame;
     let flagged = frame_flag(frame, s, now);

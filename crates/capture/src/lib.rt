@@ -8,8 +8,7 @@ ghost use Rattle.registers.specs.Control.{edm};
 ghost use Rattle.packing.specs.Packing.{Joins};
 ghost use Rattle.rules.specs.State as state;
 ghost use Rattle.rules.specs.Capture as capture-rules;
-ghost use Rattle.laws.specs.Padding as padding;
-ghost use Rattle.laws.specs.Before as before-rules;
+ghost use Rattle.rules.specs.Unpadded as unpadded-rules;
 ghost use Rattle.rules.specs.WellFormed.{lines, pixels};
 ghost use Rattle.rules.specs.declared.Frame.the-variants.{Open};
 ghost use Rattle.rules.proofs.WellFormed.{CaptureOk};
@@ -19,9 +18,9 @@ pub mod frame;
 pub mod pixels;
 pub mod syncs;
 
+use fields::control;
 use packing::joined;
 use packing::per_word;
-use registers::control;
 use rules::Capture;
 use rules::Frame;
 use rules::Partial;
@@ -163,10 +162,10 @@ fn pixel_in(frame: Frame, s: Capture, datum: u32) -> Captured
     }
 }
 
-// Rules 3 to 8 at a working edge at which neither sync blanks: no flag rises and no frame ends.
+// Rules 3 to 8 at a working edge at which neither sync blanks: no flag rises, no frame ends and no word is padded.
 fn plain_edge(s: Capture, datum: u32) -> Captured
     requires { ⌜ CaptureOk capture-answers.most-lines s ⌝ }
-    ensures { λ r. ⌜ capture-answers.captured r ≡ before-rules.at-edge-by before-rules.frame-end-before-W4 s state.not-blanking datum ⌝ }
+    ensures { λ r. ⌜ capture-answers.captured r ≡ unpadded-rules.unpadded-edge s state.not-blanking datum ⌝ }
 {
     let now = Syncs {
         hsync: false,
@@ -185,10 +184,10 @@ fn plain_edge(s: Capture, datum: u32) -> Captured
 // Rules 3 to 5 at a working edge at which a sync blanks: it carries no pixel.
 fn blanked_edge(s: Capture, now: Syncs) -> Captured
     requires { ⌜ CaptureOk capture-answers.most-lines s ⌝ }
-    ensures { λ r. ⌜ capture-answers.captured r ≡ capture-rules.no-word (state.with-syncs now (capture-rules.frame-start (before-rules.frame-end-before-W4 (capture-rules.sync-flags s now) now) now)) ⌝ }
+    ensures { λ r. ⌜ capture-answers.captured r ≡ capture-rules.no-word (state.with-syncs now (capture-rules.frame-start (unpadded-rules.unpadded-end (capture-rules.sync-flags s now) now) now)) ⌝ }
 {
     let flagged = syncs::sync_flags(s, now);
-    let ended = frame::frame_end(flagged, now);
+    let ended = frame::unpadded_end(flagged, now);
     let mut state = frame::frame_start(ended, now);
     state.syncs.hsync = now.hsync;
     state.syncs.vsync = now.vsync;
@@ -212,9 +211,9 @@ pub fn remember_pins(mut s: Capture, w: u32) -> Capture
 }
 
 // Rules 2 to 8 of a sample that pads no word (W4), where FRAME rises by itself. Lines and pixels can be counted further by one.
-pub fn sample(s: Capture, w: u32) -> Captured
+pub fn unpadded_sample(s: Capture, w: u32) -> Captured
     requires { ⌜ CaptureOk capture-answers.most-lines s ⌝ }
-    ensures { λ r. ⌜ capture-answers.captured r ≡ before-rules.capture-sample-by before-rules.frame-end-before-W4 s w ⌝ }
+    ensures { λ r. ⌜ capture-answers.captured r ≡ unpadded-rules.unpadded-sample s w ⌝ }
 {
     let s = apart(s);
     let seen = remember_pins(s, w);
@@ -251,7 +250,7 @@ fn has_partial(frame: Frame, s: Capture) -> bool
 
 // Rule 4, W4: the sample ends a frame and pads its partial word.
 pub fn pads(s: Capture, w: u32) -> bool
-    ensures { λ r. ⌜ padding.padded-at s w ≡ cond r (some (s .partial .bits)) none ⌝ }
+    ensures { λ r. ⌜ capture-rules.padded-at s w ≡ cond r (some (s .partial .bits)) none ⌝ }
 {
     if syncs::goes_on(s, w) {
         let now = syncs::blanking(s, w);

@@ -3,8 +3,8 @@ ghost use mathlib.Core.Path.{_≡_};
 ghost use Prim.Native.Nat.{_+_, _-_, _<_, _^_};
 ghost use Rattle.rules.specs.CropWindow as crop-window;
 ghost use Rattle.rules.specs.Capture as capture-rules;
-use registers::control;
-use registers::window;
+use fields::control;
+use fields::window;
 use rules::Capture;
 use rules::Scan;
 

@@ -5,7 +5,7 @@ ghost use Prim.Native.Nat.{_+_, _/_, _%_, _<_, _≤_, _^_};
 ghost use lib.Dec.{eqb};
 ghost use Rattle.rules.specs.State as state;
 ghost use Rattle.rules.specs.Capture as capture-rules;
-use registers::control;
+use fields::control;
 use rules::Capture;
 use rules::Syncs;
 use samples::clock_pin;

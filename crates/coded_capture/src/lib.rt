@@ -35,7 +35,7 @@ use codes::by_line_starts;
 use codes::is_code;
 use codes::meaning_of;
 use codes::waiting_after;
-use registers::control;
+use fields::control;
 use rules::Capture;
 use rules::Frame;
 use rules::Scan;
@@ -73,23 +73,13 @@ pub fn in_line(s: Capture) -> bool
     }
 }
 
-// Whether a frame is open.
-pub fn in_frame(frame: Frame) -> bool
-    ensures { λ r. ⌜ r ≡ state.is-open frame ⌝ }
-{
-    match frame {
-        Frame::Closed => false,
-        Frame::Open(_, _) => true,
-    }
-}
-
 // HSYNC blanks outside a line, VSYNC outside a frame.
 pub fn coded_syncs(s: Capture) -> Syncs
     ensures { λ r. ⌜ r ≡ code-rules.coded-syncs s ⌝ }
 {
     let frame = s.frame;
     let hsync = !in_line(s);
-    let vsync = !in_frame(frame);
+    let vsync = !frame::is_open(frame);
     Syncs { hsync, vsync }
 }
 
@@ -432,7 +422,7 @@ fn obeyed(meaning: Meaning, s: Capture) -> Coded
     let frame = s.frame;
     match meaning {
         Meaning::FrameEnd => {
-            if in_frame(frame) {
+            if frame::is_open(frame) {
                 let now = Syncs {
                     hsync: true,
                     vsync: true,
@@ -442,7 +432,7 @@ fn obeyed(meaning: Meaning, s: Capture) -> Coded
             silent(s)
         }
         Meaning::FrameStart => {
-            if in_frame(frame) {
+            if frame::is_open(frame) {
                 return errs(s);
             }
             silent(frame_opens(s))

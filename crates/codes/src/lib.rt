@@ -4,14 +4,14 @@ ghost use mathlib.Core.Path.{_≡_};
 ghost use lib.Dec.{eqb};
 ghost use Rattle.codes.specs.Bytes as code-bytes;
 ghost use Rattle.codes.specs.Meaning as code-meanings;
-use registers::delimiters::fec;
-use registers::delimiters::feu;
-use registers::delimiters::fsc;
-use registers::delimiters::fsu;
-use registers::delimiters::lec;
-use registers::delimiters::leu;
-use registers::delimiters::lsc;
-use registers::delimiters::lsu;
+use fields::delimiters::fec;
+use fields::delimiters::feu;
+use fields::delimiters::fsc;
+use fields::delimiters::fsu;
+use fields::delimiters::lec;
+use fields::delimiters::leu;
+use fields::delimiters::lsc;
+use fields::delimiters::lsu;
 
 // The bytes that wait: none, FF, FF 00, or FF 00 00.
 pub enum Waiting {

@@ -9,7 +9,7 @@ use native.Mathlib.Omega.{arith}
 use lib.Dec.{ltb}
 use lib.ListN.{length}
 use Rattle.output.specs.declared.Fate.the-variants.{Held, Lost}
-use Rattle.output.specs.Output.{OutputState, contents, push, with-held, holding, with-counts, with-place, count-sample, count-word, count-landed, room, stored, Granted, no-landing, lands, oldest-lands, grant, Offered, offer}
+use Rattle.output.specs.Output.{OutputState, contents, push, with-held, holding, with-counts, with-place, count-sample, count-word, count-landed, room, stored, Granted, no-landing, lands, oldest-lands, grant, Offered, offer, Packed, nothing, completed, counted}
 use Rattle.samples.specs.Samples.{bus-grant}
 use Rattle.landing.specs.Landing.{Out, first-rule, take-in, put}
 use Rattle.landing.proofs.Beside.{offer-held}
@@ -18,7 +18,7 @@ use Rattle.rules.specs.State.{device}
 use Rattle.rules.specs.Capture.{Captured, flagged, enabled}
 use Rattle.rules.specs.Sample.{capture-sample, next-capture}
 use Rattle.rules.specs.RegisterCalls.{placed}
-use Rattle.rules.specs.Run.{Packed, nothing, completed, Completed, after-word, complete, after-grant, Stepped, counted, step}
+use Rattle.rules.specs.Run.{Completed, after-word, complete, after-grant, Stepped, step}
 use Rattle.delivery.proofs.Inputs.{input}
 
 -- What a sample answers of its word where none is lost.

@@ -13,10 +13,12 @@ use Rattle.buffers.specs.declared.Buffer.the-variants.{A}
 use Rattle.refusals.specs.Refusals.{_⇒_, refused, answered}
 use Rattle.refusals.proofs.Accepted.{accepted as passed}
 use Rattle.bits.proofs.Booleans.{or-false}
-use Rattle.samples.specs.Samples.{any-bad}
+use Rattle.run_refusals.specs.RunRefusals.{run-tests}
+use Rattle.run_refusals.proofs.Passed.{passed as run-passed}
 use Rattle.rules.specs.declared.Device.{Device}
 use Rattle.rules.specs.WellFormed as device-clauses
-use Rattle.rules.specs.Run.{Packed, steps, run-refusal, SampleAnswer}
+use Rattle.output.specs.Output.{Packed, SampleAnswer}
+use Rattle.rules.specs.Run.{steps, run-refusal}
 use Rattle.rules.specs.Run as run-rules
 use Rattle.board_rules.specs.declared.Board.{Board}
 use Rattle.board_rules.specs.State.{is-two, malformed}
@@ -30,13 +32,7 @@ use Rattle.delivery.specs.Calls.{one-memory, two-memories, Call, a-run, 
 device-passed : (d : Device) (memory : List ℕ) (start : ℕ) (ws : List ℕ) → run-refusal d memory start ws ≡ 0 → start ≤ length memory
 unfolding run-refusal
 device-passed d memory start ws e =
-    let tests =
-    device-clauses.malformed d ⇒ 1 ∷
-    ltb (length memory) start ⇒ 9 ∷
-    any-bad ws ⇒ 7 ∷
-    ltb 4294967295 (d .core .output .counts .samples + length ws) ⇒ 8 ∷
-    [] in
-    ltb-false _ _ (passed tests (omega arith) e .1 .0)
+    ltb-false _ _ (run-passed (device-clauses.malformed d) (ltb (length memory) start) (d .core .output .counts .samples) ws e .within)
 
 one-passed : (b : Board) (memory : List ℕ) (start : ℕ) (ws : List ℕ) → one-refusal b memory start ws ≡ 0 → run-refusal (b .device) memory start ws ≡ 0
 unfolding one-refusal
@@ -50,13 +46,7 @@ one-passed b memory start ws = go (malformed b) (is-two (b .mode))
 two-passed : (b : Board) (l : Both) (ws : List ℕ) → two-refusal b l ws ≡ 0 → (is-two (b .mode) ≡ true) × Reaching l
 unfolding two-refusal
 two-passed b l ws e =
-    let tests =
-    malformed b ⇒ 1 ∷
-    not (is-two (b .mode)) ⇒ 16 ∷
-    (beyond (l .a) || beyond (l .b)) ⇒ 9 ∷
-    any-bad ws ⇒ 7 ∷
-    ltb 4294967295 (b .device .core .output .counts .samples + length ws) ⇒ 8 ∷
-    [] in
+    let tests = malformed b ⇒ 1 ∷ not (is-two (b .mode)) ⇒ 16 ∷ run-tests (beyond (l .a) || beyond (l .b)) (b .device .core .output .counts .samples) ws in
     let (formed, (two, (fits, rest))) = passed tests (omega arith) e in
     let (a, c) = or-false (beyond (l .a)) (beyond (l .b)) fits in
     (not-false _ two, (ltb-false _ _ a, ltb-false _ _ c))

@@ -7,7 +7,7 @@ use Prim.Native.Nat.{ℕ, _+_, _<_}
 use native.Mathlib.Omega.{arith}
 use lib.ListN.{length, length-append}
 use lib.Seq.{append-snoc}
-use Rattle.rules.specs.Run.{Packed}
+use Rattle.output.specs.Output.{Packed}
 use Rattle.delivery.specs.Calls.{Starts, Call, starts-of, brings, System, accepted, after-call, samples, says, stepped, Moment, moment, moments-inside, moments}
 use Rattle.delivery.specs.Delivery.{All, One-start}
 use Rattle.delivery.proofs.Alls.{all-append}

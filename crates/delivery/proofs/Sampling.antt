@@ -8,7 +8,8 @@ use lib.ListN.{length, take, drop, take-append-drop}
 use lib.Seq.{length-take-le, take-at, drop-at}
 use Rattle.buffers.specs.declared.Buffer.the-variants.{A}
 use Rattle.rules.specs.declared.Device.{Device}
-use Rattle.rules.specs.Run.{Packed, step, steps}
+use Rattle.output.specs.Output.{Packed}
+use Rattle.rules.specs.Run.{step, steps}
 use Rattle.board_rules.specs.declared.Mode.{Mode}
 use Rattle.board_rules.specs.declared.Mode.the-variants.{One, Two}
 use Rattle.board_rules.specs.State.{is-two}

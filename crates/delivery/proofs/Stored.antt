@@ -13,6 +13,8 @@ use Rattle.bits.proofs.Booleans.{by-cond}
 use Rattle.buffers.specs.declared.Buffer.{Buffer}
 use Rattle.buffers.specs.declared.Buffer.the-variants.{A, B}
 use Rattle.buffers.specs.Story.{same-buffer}
+use Rattle.numbers.specs.Numbers.{little}
+use Rattle.numbers.proofs.Numbers.{length-little}
 use Rattle.output.specs.Output.{bytes, stored}
 use Rattle.delivery.specs.Noted.{Noted}
 use Rattle.delivery.specs.Placed.{with-word, standing-at, with-noted}
@@ -54,13 +56,13 @@ module _ (at v : ℕ) (memory : List ℕ) (space : at + 4 ≤ length memory) whe
   front = length-take-le at memory (omega arith)
 
   with-word-length : length (with-word at v memory) ≡ length memory
-  unfolding with-word bytes
+  unfolding with-word little
   with-word-length = rw (length-append, length-append, front, length-drop) (omega arith)
 
   -- The word stands at its bytes, and four bytes before or behind them are as they were.
   with-word-there : take 4 (drop at (with-word at v memory)) ≡ bytes v
   unfolding with-word
-  with-word-there = rw (append-assoc, drop-at (take at memory) _ at front) (take-at (bytes v) _ 4 (unfold bytes in refl))
+  with-word-there = rw (append-assoc, drop-at (take at memory) _ at front) (take-at (bytes v) _ 4 (length-little 4 v))
 
   early : (p q : List ℕ) (a : ℕ) → a + 4 ≤ length p → take 4 (drop a (p ++ q)) ≡ take 4 (drop a p)
   early p q a h = rw (drop-append-le a p q (omega arith)) (take-append-le 4 (drop a p) q (rw length-drop (omega arith)))
@@ -73,7 +75,7 @@ module _ (at v : ℕ) (memory : List ℕ) (space : at + 4 ≤ length memory) whe
       ∙ ap (λ (m : List ℕ). take 4 (drop a m)) (take-append-drop at memory)
 
   with-word-behind : (a : ℕ) → at + 4 ≤ a → take 4 (drop a (with-word at v memory)) ≡ take 4 (drop a memory)
-  unfolding with-word bytes
+  unfolding with-word little
   with-word-behind a h =
       let k : ℕ = a - (at + 4) in
       let p = take at memory ++ bytes v in

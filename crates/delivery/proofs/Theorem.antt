@@ -9,11 +9,10 @@ use lib.ListN.{length, take, drop, length-append}
 use lib.Seq.{append-snoc, take-at}
 use Rattle.buffers.specs.declared.Buffer.{Buffer}
 use Rattle.buffers.specs.declared.Buffer.the-variants.{A, B}
-use Rattle.output.specs.Output.{usual-depth, bytes, contents, with-place}
+use Rattle.output.specs.Output.{usual-depth, bytes, contents, with-place, Packed}
 use Rattle.output.specs.WellFormed.{bad-depth}
 use Rattle.rules.specs.State.{device}
 use Rattle.rules.specs.RegisterCalls.{placed}
-use Rattle.rules.specs.Run.{Packed}
 use Rattle.registers.specs.Control.{embedded}
 use Rattle.board_rules.specs.BoardCalls.{fresh-of}
 use Rattle.board_rules.specs.declared.Board.{Board}

@@ -8,7 +8,8 @@ use lib.Dec.{eqb}
 use lib.ListN.{length, take, drop}
 use Rattle.buffers.specs.declared.Buffer.the-variants.{A}
 use Rattle.refusals.specs.Refusals.{Answer, refused, answered}
-use Rattle.rules.specs.Run.{Packed, step, SampleAnswer}
+use Rattle.output.specs.Output.{Packed, SampleAnswer}
+use Rattle.rules.specs.Run.{step}
 use Rattle.board_rules.specs.declared.Board.{Board}
 use Rattle.board_rules.specs.TwoBuffers.{Pair, with-part, two-step}
 use Rattle.board_rules.specs.BoardCalls as board-calls

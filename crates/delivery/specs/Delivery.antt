@@ -10,9 +10,8 @@ use Rattle.bits.specs.Bits.{bit}
 use Rattle.buffers.specs.declared.Buffer.{Buffer}
 use Rattle.buffers.specs.Story.{same-buffer}
 use Rattle.rules.specs.State.{output-of}
-use Rattle.rules.specs.Run.{Packed}
+use Rattle.output.specs.Output.{Packed, bytes, contents}
 use Rattle.samples.specs.Samples.{bus-grant}
-use Rattle.output.specs.Output.{bytes, contents}
 use Rattle.output.specs.WellFormed.{bad-depth}
 use Rattle.board_rules.specs.declared.Board.{Board}
 use Rattle.board_rules.specs.TwoBuffers.{part}

@@ -16,7 +16,7 @@ use Rattle.rules.specs.declared.Capture.{Capture}
 use Rattle.rules.specs.Capture.{Captured, enabled}
 use Rattle.refusals.specs.Refusals.{first}
 use Rattle.rules.specs.Sample.{capture-sample, next-capture}
-use Rattle.rules.specs.Run.{Packed, nothing, completed}
+use Rattle.output.specs.Output.{Packed, nothing, completed}
 use Rattle.rules.specs.RegisterCalls.{register-tests, write-register}
 use Rattle.board_rules.specs.TwoBuffers.{has-closed}
 use Rattle.delivery.specs.Calls.{SetUpCall, a-write, one-buffer, two-buffers}

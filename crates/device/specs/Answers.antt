@@ -5,9 +5,9 @@ use Prim.Native.Nat.{ℕ}
 use Rattle.refusals.specs.Refusals.{Answer, refused, answered}
 use Rattle.refusals.specs.Table.{number, outcome}
 use Rattle.rules.specs.Answers as rule-answers
-use Rattle.rules.specs.Run.{RunResult, SampleAnswer, SampleResult}
-use Rattle.output.specs.Answers.{landing}
-use Rattle.full_word.specs.Answers.{packing}
+use Rattle.output.specs.Output.{SampleAnswer}
+use Rattle.rules.specs.Run.{RunResult, SampleResult}
+use Rattle.output.specs.Answers.{landing, packing}
 use Rattle.device.specs.declared.Reading.{Reading}
 use Rattle.device.specs.declared.Reading.the-variants as reading-cases
 use Rattle.device.specs.declared.InterruptLine.{InterruptLine}

@@ -3,10 +3,12 @@ ghost use mathlib.Core.Path.{_≡_};
 ghost use Prim.Native.Nat.{_+_, _<_, _^_};
 ghost use Rattle.registers.specs.declared.Found.the-variants.{At};
 ghost use Rattle.rules.specs.RegisterCalls as register-rules;
+use capture::frame::is_open;
 use codes::Waiting;
-use output::discard;
+use fields::control;
+use fields::map;
+use fifo::discard;
 use registers::Register;
-use registers::control;
 use rules::Capture;
 use rules::Core;
 use rules::Device;
@@ -14,7 +16,6 @@ use rules::Frame;
 use rules::Partial;
 use rules::Registers;
 use rules::Syncs;
-use well_formed::is_open;
 
 // ENABLE 0 to 1.
 fn enabling(s: Capture) -> Capture
@@ -150,7 +151,7 @@ fn write_register(register: Register, v: u32, mut s: Capture) -> Capture
 fn disables(cr: u32, register: Register, v: u32) -> bool
     ensures { λ r. ⌜ r ≡ register-rules.disables cr register v ⌝ }
 {
-    register.is_control() && (control::enable(cr) && !control::enable(v))
+    map::is_control(register) && (control::enable(cr) && !control::enable(v))
 }
 
 // An accepted write, of the device.

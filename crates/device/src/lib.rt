@@ -11,10 +11,11 @@ mod register_calls;
 mod runs;
 
 use codes::Waiting;
-use full_word::Packing;
+use fifo::clauses::bad_depth;
 use output::Counts;
 use output::Landing;
 use output::Output;
+use output::Packing;
 use output::SLOTS;
 use output::USUAL_DEPTH;
 use refusals::Outcome;
@@ -33,7 +34,6 @@ use rules::Registers;
 use rules::Syncs;
 pub use runs::run;
 pub use runs::sample;
-use well_formed::bad_depth;
 pub use well_formed::malformed;
 
 // The answer of a register read.

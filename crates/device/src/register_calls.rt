@@ -1,5 +1,6 @@
 // Register reads and writes, the interrupt line and re-arming.
 ghost use mathlib.Core.Path.{_≡_};
+ghost use Rattle.bits.specs.Tests.{number-if};
 ghost use Rattle.registers.specs.declared.Found.the-variants.{At};
 ghost use Rattle.rules.specs.RegisterCalls as register-rules;
 ghost use Rattle.device.specs.Answers as device-answers;
@@ -9,19 +10,20 @@ use crate::Reading;
 use crate::control_writes::write_at;
 use capture::syncs::blanks;
 use coded_capture::coded_syncs;
+use fields::control;
+use fields::map;
 use refusals::Outcome;
 use refusals::Refusal;
 use registers::Access;
 use registers::Found;
 use registers::Register;
-use registers::control;
 use rules::Capture;
 use rules::Device;
 use rules::Syncs;
 use well_formed::malformed;
 
 fn number_if(t: bool, n: u32) -> u32
-    ensures { λ r. ⌜ r ≡ register-rules.number-if t n ⌝ }
+    ensures { λ r. ⌜ r ≡ number-if t n ⌝ }
 {
     if t {
         return n;
@@ -104,11 +106,11 @@ pub fn read(d: Device, offset: u32) -> Reading
     if malformed(d) {
         return Reading::Refused(Refusal::Malformed);
     }
-    let found = Register::at(offset);
+    let found = map::at(offset);
     let Found::At(register) = found else {
         return Reading::Refused(Refusal::NoRegister);
     };
-    if no_read(register.access()) {
+    if no_read(map::access(register)) {
         return Reading::Refused(Refusal::AccessKind);
     }
     Reading::Value(value(d, register))
@@ -118,7 +120,7 @@ pub fn read(d: Device, offset: u32) -> Reading
 fn unsupported_at(register: Register, v: u32) -> bool
     ensures { λ r. ⌜ r ≡ register-rules.unsupported-at (At register) v ⌝ }
 {
-    register.is_control() && control::unsupported(v)
+    map::is_control(register) && control::unsupported(v)
 }
 
 // Whether a CR bit other than 0 and 14 would change.
@@ -134,7 +136,7 @@ fn changes_setup(cr: u32, v: u32) -> bool
 fn fixed(cr: u32, register: Register, v: u32) -> bool
     ensures { λ r. ⌜ r ≡ register-rules.fixed cr register v ⌝ }
 {
-    register.is_fixed() || (register.is_control() && changes_setup(cr, v))
+    map::is_fixed(register) || (map::is_control(register) && changes_setup(cr, v))
 }
 
 // Refusal 6, of a write to a register.
@@ -154,20 +156,20 @@ pub fn write(d: Device, offset: u32, value: u32) -> Changed
             outcome: Outcome::Refused(Refusal::Malformed),
         };
     }
-    let found = Register::at(offset);
+    let found = map::at(offset);
     let Found::At(register) = found else {
         return Changed {
             device: d,
             outcome: Outcome::Refused(Refusal::NoRegister),
         };
     };
-    if no_write(register.access()) {
+    if no_write(map::access(register)) {
         return Changed {
             device: d,
             outcome: Outcome::Refused(Refusal::AccessKind),
         };
     }
-    if register.reserved_set(value) {
+    if map::reserved_set(register, value) {
         return Changed {
             device: d,
             outcome: Outcome::Refused(Refusal::ReservedBit),

@@ -8,8 +8,8 @@ use crate::Reply;
 use crate::Sampled;
 use refusals::Outcome;
 use rules::Device;
+use run_refusals::refusal_of;
 use sampling::SampledCore;
-use sampling::refusal_of;
 use sampling::sample_core;
 use well_formed::malformed;
 

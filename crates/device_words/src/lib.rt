@@ -4,7 +4,7 @@ ghost use mathlib.Core.Path.{_≡_};
 ghost use Prim.Native.Nat.{_+_, _≤_};
 ghost use lib.ListN.{length, drop};
 ghost use lib.Seq.{paste};
-ghost use Rattle.device_words.specs.Image as image;
+ghost use Rattle.image_rules.specs.Image as image;
 use codes::Waiting;
 use codes::waiting_count;
 use output::Counts;

@@ -19,10 +19,10 @@ use Rattle.rules.specs.Run.{RunResult, run, run-refusal, steps}
 use Rattle.trace_format.specs.Format.{header-length, sample-size}
 use Rattle.trace_format.specs.Reading.{version-of, sample-count, sample-start, whole, header-refusal, form-of, form-refusal, writes-of, samples-from, samples-of}
 use Rattle.trace_format.proofs.Rewritten.{length-samples-from}
-use Rattle.file_rules.specs.File.{set-up, run-content, run-on, run-file, run-file-of}
+use Rattle.file_rules.specs.File.{set-up, run-on, run-file, run-file-of}
 use Rattle.file_rules.specs.WholeOrder.{or-refused, whole-order}
 use Rattle.file_rules.proofs.SettingUp.{made-ready, fresh-ready}
-use Rattle.file_rules.proofs.WholeOrder.{after-writes, count-fits, with-whole-order}
+use Rattle.file_rules.proofs.WholeOrder.{made-first, after-writes, count-fits, with-whole-order}
 use Rattle.trace_format.proofs.Form.{form-after-header}
 use Rattle.file_rules.specs.Parts.{State, Taken, opened, end-refusal, ended, good-from, samples-there, left-by, run-parts, joined}
 use Rattle.file_rules.proofs.Taking.{parts-joined}
@@ -101,7 +101,7 @@ module _ (start : ℕ) (d : Device) (m f : List ℕ) (bytes : (i : ℕ) → getD
   -- The form is refused.
   form-refused : (t : Taken) → form-of (t .state .head) (t .state .taken) ≡ form-refusal f → eqb (form-refusal f) 0 ≡ false → t .memory ≡ left-by d f m start → Answers t
   unfolding run-on
-  form-refused t form some left = record { answer = end-form (t .state) (t .memory) start (form-refusal f) form some ∙ rw some; memory = left }
+  form-refused t form some left = record { answer = end-form (t .state) (t .memory) start (form-refusal f) form some ∙ rw (some, some); memory = left }
 
   header-refused : Stopped start d m f → Answers (all-bytes start d m f)
   unfolding left-by
@@ -136,12 +136,12 @@ module _ (start : ℕ) (d : Device) (m f : List ℕ) (bytes : (i : ℕ) → getD
     module _ (there : sample-start f 0 ≤ length f) where
       -- A write is refused.
       refuses-write : eqb (ready .number) 0 ≡ false → Answers all
-      unfolding all left-by ready run-on run-content
+      unfolding all left-by ready run-on
       refuses-write some =
           let g = write-refused start h f p passes d m room there some in
           let left : all .memory ≡ left-by d f m start = g .memory ∙ rw (passes, some) in
           by-bool (eqb (form-refusal f) 0)
-          (λ fine. record { answer = end-number (all .state) (all .memory) start (ready .number) (g .form ∙ eqb-true (form-refusal f) 0 fine) (g .number) some ∙ rw (fine, some); memory = left })
+          (λ fine. record { answer = end-number (all .state) (all .memory) start (ready .number) (g .form ∙ eqb-true (form-refusal f) 0 fine) (g .number) some ∙ rw (fine, some, some); memory = left })
           (λ refused. form-refused all (g .form) refused left)
 
       -- The samples are run.
@@ -208,7 +208,7 @@ module _ (d : Device) (parts : List (List ℕ)) (m : List ℕ) (start : ℕ) (by
 module _ (d : Device) (f m : List ℕ) (start : ℕ) (bytes : (i : ℕ) → getD f i 0 < 256) (well : malformed d ≡ false) (none : d .core .output .counts .samples ≡ 0) (taken : run-on d f m start .number ≡ 0) where
   formed : form-refusal f ≡ 0
   unfolding run-on
-  formed = by-bool (eqb (form-refusal f) 0) (eqb-true _ 0) (λ e. absurd (eqb-false (form-refusal f) 0 e (rw e at taken)))
+  formed = by-bool (eqb (form-refusal f) 0) (eqb-true _ 0) (λ e. absurd (eqb-false (form-refusal f) 0 e (rw (e, e) at taken)))
 
   passes : header-refusal f (length f) ≡ 0
   passes =
@@ -252,5 +252,4 @@ by-parts-file parts m start bytes = by-parts fresh parts m start bytes (fresh-re
 
 pub by-parts-of : (depth : ℕ) (parts : List (List ℕ)) (m : List ℕ) (start : ℕ) → ((i : ℕ) → getD (joined parts) i 0 < 256) → eqb (made depth .number) 0 ≡ true
     → let d = made depth .device in let r = run-file-of depth (joined parts) m start in run-parts d parts m start ≡ record { number = r .number; device = r .device; memory = left-by d (joined parts) m start }
-unfolding run-file-of
-by-parts-of depth parts m start bytes taken = rw taken (by-parts (made depth .device) parts m start bytes (made-ready depth taken .0) (made-ready depth taken .1))
+by-parts-of depth parts m start bytes taken = rw (made-first depth (joined parts) m start taken) (by-parts (made depth .device) parts m start bytes (made-ready depth taken .0) (made-ready depth taken .1))

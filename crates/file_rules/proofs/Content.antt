@@ -10,12 +10,13 @@ use lib.Dec.{eqb}
 use lib.ListN.{length, take, drop, take-append-drop}
 use lib.Seq.{drop-drop, length-take-le}
 use borrow.Author.Tests.{eqb-true}
+use Rattle.numbers.specs.Numbers.{number-at}
 use Rattle.rules.specs.declared.Device.{Device}
 use Rattle.rules.specs.Answers.{Changed}
 use Rattle.rules.specs.RegisterCalls.{write}
 use Rattle.rules.specs.Run.{RunResult, run}
 use Rattle.trace_format.specs.Format.{header-length, write-size, sample-size, write-start}
-use Rattle.trace_format.specs.Reading.{field, version-of, write-count, sample-count, sample-start, header-refusal, write-at, writes-from}
+use Rattle.trace_format.specs.Reading.{version-of, write-count, sample-count, sample-start, header-refusal, write-at, writes-from}
 use Rattle.trace.specs.Decoding.{samples-in}
 use Rattle.file_rules.specs.File.{set-up}
 use Rattle.file_rules.specs.Parts.{Taken, no-item, take-bytes}
@@ -29,8 +30,8 @@ Passes h = (n : ℕ) → header-length (version-of h) ≤ n → header-refusal h
 
 -- The write that its bytes are.
 write-here : (f : List ℕ) (k a b c x y : ℕ) (r : List ℕ) → drop (write-start (version-of f) k) f ≡ a ∷ b ∷ c ∷ x ∷ y ∷ r
-    → write-at f k ≡ record { offset = field (a ∷ b ∷ c ∷ x ∷ y ∷ []) 0 1; value = field (a ∷ b ∷ c ∷ x ∷ y ∷ []) 1 4 }
-unfolding write-at field
+    → write-at f k ≡ record { offset = number-at (a ∷ b ∷ c ∷ x ∷ y ∷ []) 0 1; value = number-at (a ∷ b ∷ c ∷ x ∷ y ∷ []) 1 4 }
+unfolding write-at number-at
 write-here f k a b c x y r q = rw (← drop-drop 1 (write-start (version-of f) k) f, q)
 
 module _ (start : ℕ) (h f : List ℕ) (passes : Passes h) (same : write-count h ≡ write-count f) (m : List ℕ) where
@@ -43,7 +44,7 @@ module _ (start : ℕ) (h f : List ℕ) (passes : Passes h) (same : write-count 
   module _ (j k : ℕ) (d : Device) (a b c x y : ℕ) (r : List ℕ) (inside : k + suc j ≡ write-count f)
       (q : drop (write-start (version-of f) k) f ≡ a ∷ b ∷ c ∷ x ∷ y ∷ r) (room : write-size * j ≤ length r) where
     written : Changed
-    written = write d (field (a ∷ b ∷ c ∷ x ∷ y ∷ []) 0 1) (field (a ∷ b ∷ c ∷ x ∷ y ∷ []) 1 4)
+    written = write d (number-at (a ∷ b ∷ c ∷ x ∷ y ∷ []) 0 1) (number-at (a ∷ b ∷ c ∷ x ∷ y ∷ []) 1 4)
 
     next-write : Taken
     next-write = at h (write-start (version-of h) (k + 1)) no-item (written .device) (written .number) m
@@ -101,8 +102,8 @@ module _ (start : ℕ) (h f : List ℕ) (passes : Passes h) (same : write-count 
   all-writes (suc j) k d (a ∷ b ∷ c ∷ x ∷ []) e q room = absurd (omega arith)
   all-writes (suc j) k d (a ∷ b ∷ c ∷ x ∷ y ∷ r) e q room = write-more j k d a b c x y r e q (omega arith) (λ d′ next. all-writes j (k + 1) d′ r (omega arith) next (omega arith))
 
-first-sample : (a b c : ℕ) (r : List ℕ) → field (a ∷ b ∷ c ∷ r) 0 sample-size ≡ field (a ∷ b ∷ c ∷ []) 0 sample-size
-unfolding field
+first-sample : (a b c : ℕ) (r : List ℕ) → number-at (a ∷ b ∷ c ∷ r) 0 sample-size ≡ number-at (a ∷ b ∷ c ∷ []) 0 sample-size
+unfolding number-at
 first-sample a b c r = refl
 
 module _ (start : ℕ) (h : List ℕ) (passes : Passes h) where
@@ -114,7 +115,7 @@ module _ (start : ℕ) (h : List ℕ) (passes : Passes h) where
 
   module _ (j k : ℕ) (item : List ℕ) (d : Device) (m : List ℕ) (a b c : ℕ) (r : List ℕ) (inside : k + suc j ≤ sample-count h) (long : length item ≡ 5) (room : sample-size * j ≤ length r) where
     ran : RunResult
-    ran = run d m start (field (a ∷ b ∷ c ∷ []) 0 sample-size ∷ [])
+    ran = run d m start (number-at (a ∷ b ∷ c ∷ []) 0 sample-size ∷ [])
 
     next-sample : Taken
     next-sample = at h (sample-start h (k + 1)) no-item (ran .device) (ran .number) (ran .memory)

@@ -3,12 +3,13 @@ use mathlib.Core.List.{List, [], _∷_, _++_, map}
 use mathlib.Core.Path.{_≡_, refl}
 use Prim.Native.Nat.{ℕ}
 use lib.ListN.{replicate}
+use Rattle.numbers.specs.Numbers.{number, number-at}
 use Rattle.rules.specs.RegisterCalls.{no-device}
 use Rattle.rules.specs.Run.{RunResult}
 use Rattle.rules.proofs.EveryRule.{every-rule}
 use Rattle.trace_format.specs.Format.{version-for, count-size}
-use Rattle.trace_format.specs.Reading.{number, field, same, form-of, write-at, sample-at, writes-from, samples-from}
-use Rattle.file_rules.specs.File.{set-up, samples-refusal, run-samples, run-content, run-on, run-file, run-file-of}
+use Rattle.trace_format.specs.Reading.{same, form-of, write-at, sample-at, writes-from, samples-from}
+use Rattle.file_rules.specs.File.{set-up, run-on, run-file, run-file-of}
 
 -- A file of so many writes and samples; the paper's trace but for its last byte.
 abbrev file : ℕ → ℕ → List ℕ → List ℕ
@@ -57,5 +58,5 @@ pub files-sheet :
     -- W9: "18, the first check where a device is made"; the file is run on a device of that depth
     × (map (λ depth. row (run-file-of depth (1 ∷ 2 ∷ 3 ∷ []) lent 9)) (0 ∷ 33 ∷ 32 ∷ []) ≡ leaves (18 ∷ 0 ∷ 0 ∷ 0 ∷ []) lent ∷ leaves (18 ∷ 0 ∷ 0 ∷ 0 ∷ []) lent ∷ leaves (13 ∷ 0 ∷ 0 ∷ 0 ∷ []) lent ∷ [])
     × (row (run-file-of 1 (file 1 8 (enabling ++ T ++ 0x01 ∷ [])) lent 4) ≡ leaves (0 ∷ 1 ∷ 0x19 ∷ 1 ∷ []) (replicate 4 0xEE ++ 0xAB ∷ 0x0A ∷ 0x1B ∷ 0x09 ∷ []))
-unfolding every-rule version-for count-size number field same form-of write-at sample-at writes-from samples-from set-up samples-refusal run-samples run-content run-on run-file-of
+unfolding every-rule version-for count-size number number-at same form-of write-at sample-at writes-from samples-from set-up run-on run-file-of
 files-sheet = (refl, refl, refl, refl, refl, refl, refl, refl)

@@ -11,11 +11,12 @@ use lib.Dec.{eqb, ltb}
 use lib.ListN.{length, take, drop, getD, set, length-set, replicate, take-append-drop}
 use lib.Seq.{take-suc, drop-length, getD-set-same, getD-set-other}
 use borrow.Author.Tests.{lt-ltb, le-ltb, ltb-true, ltb-false, leb-true, eqb-true}
+use Rattle.numbers.specs.Numbers.{number-at}
 use Rattle.rules.specs.declared.Device.{Device}
 use Rattle.trace_format.specs.Format.{version-for, count-size, header-length, mark}
-use Rattle.trace_format.specs.Reading.{field, same, version-of, write-count, sample-count, whole, header-refusal, form-of}
-use Rattle.trace_format.proofs.Fields.{field-suc, mark-bytes}
-use Rattle.trace_format.proofs.Form.{count-sizes, form-after-header}
+use Rattle.trace_format.specs.Reading.{same, version-of, write-count, sample-count, whole, header-refusal, form-of}
+use Rattle.numbers.proofs.NumberAt.{number-at-suc}
+use Rattle.trace_format.proofs.Form.{count-sizes, form-after-header, mark-bytes}
 use Rattle.file_rules.specs.Parts.{Taken, no-item, opened, wants, take-byte, take-bytes}
 use Rattle.file_rules.proofs.Taking.{at, bytes-append, header-step, unwanted}
 use Rattle.file_rules.proofs.Singles.{by-bool}
@@ -32,10 +33,10 @@ pub record Passed (h f : List ℕ) : Type 0 where
 abbrev pub Agree : ℕ → List ℕ → List ℕ → Type 0
 Agree k h f = (i : ℕ) → i < k → getD h i 0 ≡ getD f i 0
 
-pub field-same : (k : ℕ) (h f : List ℕ) → Agree k h f → (n at : ℕ) → at + n ≤ k → field h at n ≡ field f at n
-unfolding field
-field-same k h f same zero at low = refl
-field-same k h f same (suc n) at low = rw (field-suc h at n, field-suc f at n, same at (omega arith), field-same k h f same n (at + 1) (omega arith))
+pub number-at-same : (k : ℕ) (h f : List ℕ) → Agree k h f → (n at : ℕ) → at + n ≤ k → number-at h at n ≡ number-at f at n
+unfolding number-at
+number-at-same k h f same zero at low = refl
+number-at-same k h f same (suc n) at low = rw (number-at-suc h at n, number-at-suc f at n, same at (omega arith), number-at-same k h f same n (at + 1) (omega arith))
 
 pub mark-same : (h f : List ℕ) → Agree 3 h f → same (take 3 h) mark ≡ same (take 3 f) mark
 mark-same h f same = rw (mark-bytes h, mark-bytes f, same 0 (omega arith), same 1 (omega arith), same 2 (omega arith))
@@ -74,7 +75,7 @@ module _ (start : ℕ) (d : Device) (m f : List ℕ) where
   head-mark k h agree low = mark-same h f (λ i b. agree i (omega arith))
 
   head-version : (k : ℕ) (h : List ℕ) → Agree k h f → 5 ≤ k → version-of h ≡ version-of f
-  head-version k h agree low = field-same k h f agree 2 3 low
+  head-version k h agree low = number-at-same k h f agree 2 3 low
 
   short-header : (k : ℕ) (t : Taken) (g : Heading start d m f k t) → k < 8 → (header-refusal (g .head) k ≡ 13) × (k < header-length (version-of (g .head)))
   unfolding header-refusal
@@ -195,13 +196,13 @@ module _ (start : ℕ) (d : Device) (m f : List ℕ) where
     version = head-version (header-length (version-of f)) h agrees (omega (arith, count-sizes (version-of f) .0))
 
     writes : write-count h ≡ write-count f
-    writes = field-same (header-length (version-of f)) h f agrees 1 5 (omega (arith, count-sizes (version-of f) .0))
+    writes = number-at-same (header-length (version-of f)) h f agrees 1 5 (omega (arith, count-sizes (version-of f) .0))
 
-    samples-field : field h 6 (count-size (version-of f)) ≡ sample-count f
-    samples-field = field-same (header-length (version-of f)) h f agrees (count-size (version-of f)) 6 (omega arith)
+    samples-number : number-at h 6 (count-size (version-of f)) ≡ sample-count f
+    samples-number = number-at-same (header-length (version-of f)) h f agrees (count-size (version-of f)) 6 (omega arith)
 
     samples : sample-count h ≡ sample-count f
-    samples = rw version samples-field
+    samples = rw version samples-number
 
     checks : (n : ℕ) → header-length (version-of f) ≤ n → header-refusal h n ≡ cond (not (eqb (version-of f) (version-for (sample-count f)))) 12 0
     unfolding header-refusal
@@ -213,7 +214,7 @@ module _ (start : ℕ) (d : Device) (m f : List ℕ) where
           version,
           known .known,
           le-ltb _ _ low,
-          samples-field,
+          samples-number,
         )
 
     file-checks : header-refusal f (length f) ≡ cond (not (eqb (version-of f) (version-for (sample-count f)))) 12 0

@@ -5,11 +5,12 @@ use Prim.Native.Nat.{ℕ, _+_, _-_, _%_, _≤_, _<_}
 use native.Mathlib.Omega.{arith}
 use lib.ListN.{length, set}
 use borrow.Author.Tests.{ne-eqb}
+use Rattle.numbers.specs.Numbers.{number-at}
 use Rattle.rules.specs.declared.Device.{Device}
 use Rattle.rules.specs.RegisterCalls.{write}
 use Rattle.rules.specs.Run.{run}
 use Rattle.trace_format.specs.Format.{header-length, write-size, sample-size, write-start}
-use Rattle.trace_format.specs.Reading.{field, version-of, write-count, sample-count, sample-start, whole, header-refusal}
+use Rattle.trace_format.specs.Reading.{version-of, write-count, sample-count, sample-start, whole, header-refusal}
 use Rattle.file_rules.specs.Parts.{Taken, no-item, after-write, after-sample, write-byte, sample-byte, take-byte, take-bytes}
 use Rattle.file_rules.proofs.Taking.{at, write-step, sample-step}
 
@@ -46,12 +47,12 @@ module _ (start : ℕ) (h : List ℕ) (passes : (n : ℕ) → header-length (ver
 
     -- All five of them: the write.
     pub one-write : (item : List ℕ) (a b c e g : ℕ) → length item ≡ 5
-        → let bs = a ∷ b ∷ c ∷ e ∷ g ∷ [] in let r = write d (field bs 0 1) (field bs 1 4) in
+        → let bs = a ∷ b ∷ c ∷ e ∷ g ∷ [] in let r = write d (number-at bs 0 1) (number-at bs 1 4) in
         take-bytes start (at h (write-start (version-of h) k) item d 0 m) bs ≡ at h (write-start (version-of h) (k + 1)) no-item (r .device) (r .number) m
     unfolding take-bytes after-write
     one-write item a b c e g long =
         five-of
-        (λ (l : List ℕ). let bs = a ∷ b ∷ c ∷ e ∷ g ∷ [] in let r = write d (field bs 0 1) (field bs 1 4) in
+        (λ (l : List ℕ). let bs = a ∷ b ∷ c ∷ e ∷ g ∷ [] in let r = write d (number-at bs 0 1) (number-at bs 1 4) in
         take-bytes start (at h (write-start (version-of h) k) l d 0 m) bs ≡ at h (write-start (version-of h) (k + 1)) no-item (r .device) (r .number) m)
         item long
         (λ i₀ i₁ i₂ i₃ i₄.
@@ -87,12 +88,12 @@ module _ (start : ℕ) (h : List ℕ) (passes : (n : ℕ) → header-length (ver
 
     -- All three of them: a run of the sample.
     pub one-sample : (item : List ℕ) (a b c : ℕ) → length item ≡ 5
-        → let r = run d m start (field (a ∷ b ∷ c ∷ []) 0 sample-size ∷ []) in
+        → let r = run d m start (number-at (a ∷ b ∷ c ∷ []) 0 sample-size ∷ []) in
         take-bytes start (at h (sample-start h k) item d 0 m) (a ∷ b ∷ c ∷ []) ≡ at h (sample-start h (k + 1)) no-item (r .device) (r .number) (r .memory)
-    unfolding take-bytes after-sample field
+    unfolding take-bytes after-sample number-at
     one-sample item a b c long =
         five-of
-        (λ (l : List ℕ). let r = run d m start (field (a ∷ b ∷ c ∷ []) 0 sample-size ∷ []) in
+        (λ (l : List ℕ). let r = run d m start (number-at (a ∷ b ∷ c ∷ []) 0 sample-size ∷ []) in
         take-bytes start (at h (sample-start h k) l d 0 m) (a ∷ b ∷ c ∷ []) ≡ at h (sample-start h (k + 1)) no-item (r .device) (r .number) (r .memory))
         item long
         (λ i₀ i₁ i₂ i₃ i₄.

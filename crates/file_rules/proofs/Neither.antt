@@ -10,9 +10,9 @@ use borrow.Author.Tests.{le-ltb}
 use Rattle.bits.proofs.Booleans.{by-cond}
 use Rattle.refusals.specs.Refusals.{Test, _⇒_, first}
 use Rattle.registers.specs.Map.{register-at}
-use Rattle.samples.specs.Samples.{any-bad}
 use Rattle.rules.specs.declared.Device.{Device}
 use Rattle.rules.specs.RegisterCalls.{register-tests, write-refusal, write}
+use Rattle.run_refusals.specs.RunRefusals.{run-tests}
 use Rattle.rules.specs.Run.{run-refusal, run}
 use Rattle.rules.specs.WellFormed.{malformed}
 use Rattle.trace_format.specs.Reading.{whole, header-checks, form-of}
@@ -22,11 +22,11 @@ abbrev pub Neither : ℕ → Type 0
 Neither n = (eqb n 1 ≡ false) × (eqb n 8 ≡ false)
 
 -- Each test that holds has such a number.
-abbrev Holding : List Test → Type 0
+abbrev pub Holding : List Test → Type 0
 Holding [] = Unit {0}
 Holding (t ∷ ts) = (t .holds ≡ true → Neither (t .number)) × Holding ts
 
-first-neither : (ts : List Test) → Holding ts → Neither (first ts)
+pub first-neither : (ts : List Test) → Holding ts → Neither (first ts)
 first-neither [] h = (refl, refl)
 first-neither (t ∷ ts) h = by-cond Neither (t .holds) (t .number) (first ts) (h .0) (λ _. first-neither ts (h .1))
 
@@ -44,7 +44,7 @@ pub run-neither : (d : Device) (m : List ℕ) (start : ℕ) (ws : List ℕ) → 
 unfolding run run-refusal
 run-neither d m start ws well fits =
     first-neither
-    (malformed d ⇒ 1 ∷ ltb (length m) start ⇒ 9 ∷ any-bad ws ⇒ 7 ∷ ltb 4294967295 (d .core .output .counts .samples + length ws) ⇒ 8 ∷ [])
+    (malformed d ⇒ 1 ∷ run-tests (ltb (length m) start) (d .core .output .counts .samples) ws)
     (passed (malformed d) well, ((λ _. (refl, refl)), ((λ _. (refl, refl)), (passed _ (le-ltb _ _ fits), tt))))
 
 pub form-neither : (f : List ℕ) (n : ℕ) → Neither (form-of f n)

@@ -8,6 +8,7 @@ use native.Mathlib.Omega.{arith}
 use lib.Dec.{eqb, ltb}
 use lib.ListN.{drop, getD, set, replicate}
 use borrow.Author.Tests.{eqb-true, ltb-true, ltb-false}
+use Rattle.numbers.specs.Numbers.{number-at}
 use Rattle.bits.proofs.Booleans.{by-cond, either}
 use Rattle.rules.specs.declared.Device.{Device}
 use Rattle.rules.specs.Run.{run-refusal, run, steps}
@@ -16,8 +17,9 @@ use Rattle.laws.proofs.Keeps.{run-keeps}
 use Rattle.laws.proofs.KeepsSample.{step-samples}
 use Rattle.laws.proofs.KeepsWrites.{write-keeps}
 use Rattle.trace_format.specs.Format.{header-length, write-size, sample-size}
-use Rattle.trace_format.specs.Reading.{field, version-of, sample-start, whole}
-use Rattle.trace_format.proofs.Fields.{field-below, count-below}
+use Rattle.trace_format.specs.Reading.{version-of, sample-start, whole}
+use Rattle.numbers.proofs.NumberAt.{number-at-below}
+use Rattle.trace_format.proofs.Form.{count-below}
 use Rattle.file_rules.proofs.Neither.{Neither, write-neither, run-neither}
 use Rattle.file_rules.proofs.SettingUp.{write-samples}
 use Rattle.file_rules.proofs.WholeOrder.{never-answered as file-answers-neither}
@@ -63,9 +65,9 @@ module _ (start : ℕ) (b : ℕ) (small : b < 256) where
       let place : ℕ = write-place s in
       let put = bytes-set (s .item) place b small (g .item) in
       let item = set (s .item) place b in
-      let offset = field item 0 1 in
-      let v = field item 1 4 in
-      let fits : v < 2 ^ 32 = omega (arith, field-below item put 1 4) in
+      let offset = number-at item 0 1 in
+      let v = number-at item 1 4 in
+      let fits : v < 2 ^ 32 = omega (arith, number-at-below item put 1 4) in
       by-cond Sound (eqb (place + 1) write-size) _ _
       (λ _.
       record {
@@ -83,7 +85,7 @@ module _ (start : ℕ) (b : ℕ) (small : b < 256) where
       let s = t .state in
       let place : ℕ = sample-place s in
       let put = bytes-set (s .item) place b small (g .item) in
-      let w = field (set (s .item) place b) 0 sample-size in
+      let w = number-at (set (s .item) place b) 0 sample-size in
       by-cond (λ (u : Taken). Sound (u .state)) (eqb (place + 1) sample-size) _ _
       (λ last.
       let third : place + 1 ≡ 3 = eqb-true (place + 1) 3 last in

@@ -3,11 +3,12 @@ use mathlib.Core.List.{List, [], _∷_, _++_, map}
 use mathlib.Core.Path.{_≡_, refl}
 use Prim.Native.Nat.{ℕ}
 use lib.ListN.{take, drop, replicate}
+use Rattle.numbers.specs.Numbers.{number, number-at}
 use Rattle.rules.specs.State.{fresh}
 use Rattle.rules.specs.Run.{RunResult}
 use Rattle.rules.proofs.EveryRule.{every-rule}
 use Rattle.trace_format.specs.Format.{version-for, count-size}
-use Rattle.trace_format.specs.Reading.{number, field, same, header-refusal, form-of}
+use Rattle.trace_format.specs.Reading.{same, header-refusal, form-of}
 use Rattle.file_rules.specs.Parts.{State, opened, wants, after-write, after-sample, falls, write-byte, sample-byte, byte-at, take-byte, take-bytes, take-parts, end-refusal, ended, run-parts, wanted}
 
 -- The paper's file of 37 bytes (document 01, "The frame printer"), but for its last sample.
@@ -83,5 +84,5 @@ pub request-sheet :
     × (map more ([] ∷ (1 ∷ 2 ∷ 3 ∷ []) ∷ (1 ∷ 2 ∷ 3 ∷ 1 ∷ 0 ∷ 0 ∷ 0 ∷ 0 ∷ []) ∷ (0x46 ∷ 0x47 ∷ 0x54 ∷ 2 ∷ 0 ∷ 0 ∷ 0 ∷ []) ∷ (0x46 ∷ 0x47 ∷ 0x54 ∷ 2 ∷ 0 ∷ 0 ∷ 0 ∷ 0 ∷ []) ∷ (0x46 ∷ 0x47 ∷ 0x54 ∷ 2 ∷ 0 ∷ 0 ∷ 0 ∷ 0 ∷ 0 ∷ []) ∷ take 8 file-T ∷ (file-T ++ 0x00 ∷ 0xC0 ∷ 0x01 ∷ []) ∷ []) ≡ 8 ∷ 5 ∷ 0 ∷ 1 ∷ 2 ∷ 1 ∷ 30 ∷ 1 ∷ [])
     -- of three bytes too many one is counted
     × (begun (file-T ++ 0x00 ∷ 0xC0 ∷ 0x01 ∷ 0x00 ∷ 0x00 ∷ 0x00 ∷ []) .taken ≡ 38)
-unfolding every-rule inputs file-T opened wants after-write after-sample falls write-byte sample-byte byte-at take-byte take-bytes take-parts end-refusal ended run-parts wanted header-refusal form-of same field number version-for count-size
+unfolding every-rule inputs file-T opened wants after-write after-sample falls write-byte sample-byte byte-at take-byte take-bytes take-parts end-refusal ended run-parts wanted header-refusal form-of same number-at number version-for count-size
 request-sheet = (refl, refl, refl, refl)

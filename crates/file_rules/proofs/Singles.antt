@@ -9,8 +9,7 @@ use lib.ListN.{length, take, drop, length-append, take-append-drop}
 use lib.Seq.{length-take-le, take-at, drop-at}
 use borrow.Author.Tests.{lt-ltb, le-ltb, ltb-true, ltb-false, eqb-false}
 use Rattle.bits.proofs.Booleans.{by-cond, either}
-use Rattle.refusals.specs.Refusals.{_⇒_}
-use Rattle.refusals.proofs.Accepted.{accepted}
+use Rattle.run_refusals.proofs.Passed.{passed}
 use Rattle.samples.specs.Samples.{bad-sample, any-bad}
 use Rattle.rules.specs.declared.Device.{Device}
 use Rattle.rules.specs.WellFormed.{malformed}
@@ -161,10 +160,7 @@ module _ (start : ℕ) (d : Device) (m : List ℕ) (w : ℕ) (ws : List ℕ) whe
 -- A run that is accepted has no bad sample.
 pub not-bad : (d : Device) (m : List ℕ) (start : ℕ) (ws : List ℕ) → run d m start ws .number ≡ 0 → any-bad ws ≡ false
 unfolding run run-refusal
-not-bad d m start ws e =
-    accepted
-    (malformed d ⇒ 1 ∷ ltb (length m) start ⇒ 9 ∷ any-bad ws ⇒ 7 ∷ ltb 4294967295 (d .core .output .counts .samples + length ws) ⇒ 8 ∷ [])
-    (omega arith) e .1 .1 .0
+not-bad d m start ws e = passed (malformed d) (ltb (length m) start) (d .core .output .counts .samples) ws e .good
 
 -- The first is run.
 module _ (start : ℕ) (d : Device) (m : List ℕ) (w : ℕ) (well : malformed d ≡ false) (within : start ≤ length m) (fine : bad-sample w ≡ false) (small : d .core .output .counts .samples + 1 ≤ 4294967295) where

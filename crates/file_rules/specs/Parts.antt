@@ -5,6 +5,7 @@ use mathlib.Core.List.{List, [], _∷_, _++_}
 use Prim.Native.Nat.{ℕ, zero, suc, _+_, _-_, _/_, _%_, min}
 use lib.Dec.{eqb, ltb, leb}
 use lib.ListN.{length, set, replicate}
+use Rattle.numbers.specs.Numbers.{number-at}
 use Rattle.refusals.specs.Refusals.{_⇒_, first}
 use Rattle.rules.specs.declared.Device.{Device}
 use Rattle.rules.specs.Answers.{Changed}
@@ -12,7 +13,7 @@ use Rattle.rules.specs.RegisterCalls.{no-device, write}
 use Rattle.rules.specs.Run.{RunResult, run}
 use Rattle.samples.specs.Samples.{bad-sample}
 use Rattle.trace_format.specs.Format.{header-length, write-size, sample-size}
-use Rattle.trace_format.specs.Reading.{field, version-of, sample-count, sample-start, sample-at, whole, header-refusal, form-of, writes-of}
+use Rattle.trace_format.specs.Reading.{version-of, sample-count, sample-start, sample-at, whole, header-refusal, form-of, writes-of}
 use Rattle.file_rules.specs.File.{set-up}
 
 -- The header as far as it has come, how many bytes have come, the bytes of the write or sample that has begun, the device, and the number of the first refused write
@@ -49,14 +50,14 @@ next s head item = record { head = head; taken = s .taken + 1; item = item; devi
 -- A write with all its bytes: refused, it leaves the device, and its number is remembered.
 unfoldable pub after-write : State → State
 after-write s =
-    let r = write (s .device) (field (s .item) 0 1) (field (s .item) 1 4) in
+    let r = write (s .device) (number-at (s .item) 0 1) (number-at (s .item) 1 4) in
     record { head = s .head; taken = s .taken; item = no-item; device = r .device; number = r .number }
 
 -- A sample with all its bytes, as a run of one: refused (1, 9, 7, 8), it leaves device and memory, and its number is remembered. On the device of a file's run 1 and 8 do not
 -- occur (W8: `never-remembered`).
 unfoldable pub after-sample : ℕ → State → List ℕ → Taken
 after-sample start s memory =
-    let r = run (s .device) memory start (field (s .item) 0 sample-size ∷ []) in
+    let r = run (s .device) memory start (number-at (s .item) 0 sample-size ∷ []) in
     record { state = record { head = s .head; taken = s .taken; item = no-item; device = r .device; number = r .number }; memory = r .memory }
 
 -- Where the next byte falls (01, "Trace file"; W7): in the header; in a write or a sample, at a place of its five or three bytes; where a byte is counted only, behind a

@@ -29,7 +29,7 @@ use Rattle.trace.specs.Decoding.{samples-in, how-many, many, samples-at}
 use Rattle.refusals.proofs.Numbered.{never-zero}
 use Rattle.refusals.specs.Table.{number}
 use Rattle.refusals.specs.declared.Refusal.{Refusal}
-use Rattle.trace_format.proofs.Putting.{put-over}
+use Rattle.numbers.proofs.Putting.{put-over}
 use Rattle.trace_format.proofs.Form.{formed}
 use Rattle.trace_format.proofs.Walk.{clash}
 use Rattle.trace_format.proofs.Rewritten.{length-samples-from}

@@ -5,6 +5,7 @@ ghost use mathlib.Core.List.{List};
 ghost use mathlib.Core.Path.{_≡_};
 ghost use Prim.Native.Nat.{ℕ};
 ghost use Rattle.refusals.specs.Table.{number, outcome};
+ghost use Rattle.rules.specs.declared.Device as device-code;
 ghost use Rattle.rules.specs.State as state;
 ghost use Rattle.rules.specs.RegisterCalls as register-rules;
 ghost use Rattle.rules.specs.Run as run-rules;
@@ -109,12 +110,12 @@ fn steps(d: Device, buffer: &mut [u8], file: &[u8]) -> Device
     e
 }
 
-// The samples of a file as one run on a device that has counted none: refusals 9 and 7. Refused, there is no device.
+// The samples of a file of the right form as one run, on the device that its writes left: refusals 9 and 7. Refused, there is no device.
 fn run_samples(d: Device, file: &[u8], memory: &mut [u8], start: usize) -> Changed
     requires { ⌜ malformed d ≡ false ⌝ }
     requires { ⌜ d .core .output .counts .samples ≡ 0 ⌝ }
     requires { ⌜ reading.form-refusal (now file) ≡ 0 ⌝ }
-    ensures { λ r. ⌜ device-answers.ran r (now (memory .exit)) ≡ file-rules.run-samples d (now (memory .entry)) start (reading.samples-of (now (file .entry))) ⌝ }
+    ensures { λ r. ⌜ ((fresh : device-code.Device) → file-rules.set-up fresh (reading.writes-of (now (file .entry))) ≡ record { number = 0; device = d } → device-answers.ran r (now (memory .exit)) ≡ file-rules.run-on fresh (now (file .entry)) (now (memory .entry)) start) ⌝ }
 {
     if memory.len() < start {
         return refused(Refusal::StartBeyond);
@@ -134,7 +135,7 @@ fn run_samples(d: Device, file: &[u8], memory: &mut [u8], start: usize) -> Chang
 fn run_content(fresh: Device, file: &[u8], memory: &mut [u8], start: usize) -> Changed
     requires { ⌜ (malformed fresh ≡ false) × (fresh .core .output .counts .samples ≡ 0) ⌝ }
     requires { ⌜ reading.form-refusal (now file) ≡ 0 ⌝ }
-    ensures { λ r. ⌜ device-answers.ran r (now (memory .exit)) ≡ file-rules.run-content fresh (reading.writes-of (now (file .entry))) (reading.samples-of (now (file .entry))) (now (memory .entry)) start ⌝ }
+    ensures { λ r. ⌜ device-answers.ran r (now (memory .exit)) ≡ file-rules.run-on fresh (now (file .entry)) (now (memory .entry)) start ⌝ }
 {
     let ready = set_up(fresh, file);
     let d = ready.device;

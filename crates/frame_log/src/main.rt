@@ -7,8 +7,8 @@ ghost use Rattle.frame_log.specs.Frames.{three-frames, samples, left, sa
 use board::TwoReply;
 use board_rules::Board;
 use buffers::Buffer;
-use full_word::Packing;
 use libc::STDOUT_FILENO;
+use output::Packing;
 use refusals::Outcome;
 use registers::Register;
 use two_buffers::TwoLanding;

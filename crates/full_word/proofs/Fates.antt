@@ -6,11 +6,11 @@ use Prim.Native.Nat.{ℕ}
 use native.Mathlib.Omega.{arith}
 use Rattle.output.specs.declared.Fate.{Fate}
 use Rattle.output.specs.declared.Fate.the-variants.{Held, Lost}
-use Rattle.output.specs.Output.{OutputState, offer}
+use Rattle.output.specs.Output.{OutputState, offer, nothing, completed, lost}
 use Rattle.rules.specs.declared.Capture.{Capture}
 use Rattle.rules.specs.State.{device, output-of, raise}
 use Rattle.rules.specs.Capture.{Captured, flagged}
-use Rattle.rules.specs.Run.{nothing, completed, lost, after-word, complete}
+use Rattle.rules.specs.Run.{after-word, complete}
 use Rattle.full_word.specs.Answers.{with-word}
 
 -- Rule 9 of a padded word from that of a full one: FRAME rises where it is held.

@@ -1,4 +1,4 @@
-// Rule 9 of a sample: a full word is held, or there is an overrun; and the answers of rules 1 and 9 noted in lent places (`notes`). The slots are lent and the rest goes by value
+// Rule 9 of a sample: a full word is held, or there is an overrun. The slots are lent and the rest goes by value
 // (docs/SPEED.md). The functions are for the crates above, which call them on well-formed devices; each states its result as an equation with its definition.
 ghost use mathlib.Core.Bool.{true, false, cond};
 ghost use mathlib.Core.Option.{some};
@@ -11,9 +11,6 @@ ghost use Rattle.rules.specs.Run as run-rules;
 ghost use Rattle.capture.specs.Answers as capture-answers;
 ghost use Rattle.coded_capture.specs.Answers as coded-answers;
 ghost use Rattle.full_word.specs.Answers as word-answers;
-
-pub mod notes;
-
 use capture::Captured;
 use capture::Word;
 use capture::apart;
@@ -22,21 +19,15 @@ use capture::frame::close_frame;
 use capture::syncs::raise_frame;
 use capture::syncs::raise_ovr;
 use coded_capture::Coded;
+use fields::control;
+use fifo::discard;
+use fifo::offer;
 use output::Fate;
 use output::Output;
+use output::Packing;
 use output::SLOTS;
-use output::discard;
-use output::offer;
-use registers::control;
 use rules::Capture;
 use rules::Core;
-
-// Rule 9's answer. Nothing: no word was completed (`complete`). Completed: one was, with its value, and is held; Lost: one was lost (`after-word`).
-pub enum Packing {
-    Nothing,
-    Completed(u32),
-    Lost,
-}
 
 // The core after rule 9, and what became of the word. The answer stands first for speed (docs/SPEED.md).
 pub struct Completed {

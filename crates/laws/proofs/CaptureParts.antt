@@ -5,7 +5,7 @@ use mathlib.Core.Path.{_≡_, refl, sym, _∙_}
 use Prim.Native.Nat.{ℕ, zero, suc, _*_, _^_, _≤_, _<_}
 use native.Mathlib.Omega.{arith}
 use lib.Pow.{pow-pos}
-use Rattle.bits.specs.Bits.{field}
+use Rattle.bits.specs.Bits.{field, lowered, raised}
 use Rattle.registers.specs.Control.{edm, enable}
 use Rattle.rules.specs.declared.Registers.{Registers}
 use Rattle.rules.specs.declared.Pins.{Pins}
@@ -15,7 +15,7 @@ use Rattle.rules.specs.declared.Frame.{Frame}
 use Rattle.rules.specs.declared.Frame.the-variants.{Closed, Open}
 use Rattle.rules.specs.declared.Partial.{Partial}
 use Rattle.rules.specs.declared.Capture.{Capture}
-use Rattle.rules.specs.State.{is-open, is-taken, lowered, raised, with-cr, with-ris, with-registers, with-pins, with-syncs, with-frame, with-partial, raise, clear-capture, close-frame}
+use Rattle.rules.specs.State.{is-open, is-taken, with-cr, with-ris, with-registers, with-pins, with-syncs, with-frame, with-partial, raise, clear-capture, close-frame}
 use Rattle.packing.specs.Packing.{width, per-word}
 use Rattle.packing.proofs.Lanes.{per-word-positive}
 use Rattle.rules.specs.Capture.{rate-period}

@@ -12,14 +12,14 @@ use Rattle.codes.specs.declared.Waiting.the-variants.{Zero}
 use Rattle.codes.specs.Bytes.{waiting-bytes, is-code, waiting-after, released, a-datum, a-code, pieces-of, Cut, in-front, by-bytes, cut, bytes-of}
 use Rattle.codes.specs.Meaning.{meaning}
 use Rattle.codes.proofs.Bytes.{whole-after, nothing-lost}
-use Rattle.output.specs.Output.{grant}
+use Rattle.output.specs.Output.{grant, counted}
 use Rattle.rules.specs.declared.Capture.{Capture}
 use Rattle.rules.specs.declared.Device.{Device}
 use Rattle.rules.specs.State.{capture-of, output-of, raise, clear-capture, close-frame, with-cr, with-ris, with-registers, with-pins, with-frame, with-partial, with-waiting}
 use Rattle.rules.specs.Capture.{Captured, flagged, working-edge, enabled, remember-pins}
 use Rattle.rules.specs.Codes.{byte-in, taken-out, at-code, at-byte}
 use Rattle.rules.specs.Sample.{byte-of, edge, capture-sample}
-use Rattle.rules.specs.Run.{lose-frame, after-grant, counted, step, steps}
+use Rattle.rules.specs.Run.{lose-frame, after-grant, step, steps}
 use Rattle.laws.specs.CodeStream.{edge-bytes, acted-at, acted-on}
 use Rattle.laws.proofs.RegisterValues.{half-setup, same-embedded, same-pckpol}
 use Rattle.laws.proofs.Sampled.{sample-left}

@@ -29,7 +29,8 @@ use Rattle.rules.specs.Capture.{Captured, no-word, next-rate, takes, captured, 
 use Rattle.rules.specs.Codes.{coded-syncs, arrived, before, datum, each-datum, byte-in, taken-out, first-place, frame-opens, line-opens, closes, errs, at-code, at-byte, frame-ended}
 use Rattle.rules.specs.WellFormed.{unused-bits}
 use Rattle.rules.proofs.WellFormed.{CaptureOk}
-use Rattle.laws.proofs.RegisterValues.{raised-other, half-enable}
+use Rattle.bits.proofs.Raised.{raised-other}
+use Rattle.laws.proofs.RegisterValues.{half-enable}
 use Rattle.laws.proofs.CaptureParts.{none-partial, pins-syncs-ok, scan-ok, raise-ok, close-frame-ok}
 use Rattle.laws.proofs.Kept.{Kept, kept, then, sync-flags-kept, frame-closes-kept, next-rate-fits}
 use Rattle.laws.proofs.Moved.{pack-ok, grow}

@@ -6,7 +6,6 @@ use mathlib.Core.List.{List, [], _∷_, _++_}
 use mathlib.Core.Option.{Option, none, some}
 use mathlib.Core.Path.{_≡_, refl, ap, _∙_}
 use Prim.Native.Nat.{ℕ}
-use native.Mathlib.Nat.{add-zero}
 use native.Mathlib.Omega.{arith}
 use lib.Dec.{eqb, ltb}
 use lib.ListN.{drop}
@@ -18,31 +17,19 @@ use Rattle.registers.specs.declared.Found.{Found}
 use Rattle.registers.specs.declared.Found.the-variants.{At, Nothing}
 use Rattle.refusals.specs.Refusals.{_⇒_, first}
 use Rattle.samples.specs.Samples.{bus-grant}
-use Rattle.output.specs.Output.{OutputState, contents, with-held, holding, with-counts, with-place, count-sample, count-word, count-discarded, count-landed, fresh-output, room, Granted, no-landing, lands, oldest-lands, grant, Offered, offer, discard}
+use Rattle.output.specs.Output.{OutputState, with-held, holding, with-counts, with-place, count-sample, count-word, count-discarded, fresh-output, Offered, offer, discard, counted}
+use Rattle.output.proofs.Entered.{grant-landed, discard-entered}
 use Rattle.rules.specs.Capture.{Captured}
 use Rattle.rules.specs.declared.Device.{Device}
 use Rattle.rules.specs.State.{output-of, fresh-of, with-cr, with-ris, with-ier, with-cwstrt, with-cwsize, with-escr, with-esur, with-registers}
 use Rattle.rules.specs.RegisterCalls.{write-control, clear-flags, write-register, write-at, write-refusal, write, placed, rearmed, rearm}
-use Rattle.rules.specs.Run.{after-word, complete, after-grant, counted, step, steps, run-refusal, run, sample}
+use Rattle.rules.specs.Run.{after-word, complete, after-grant, step, steps, run-refusal, run, sample}
 use Rattle.rules.specs.WellFormed.{malformed}
 use Rattle.laws.specs.Histories.{Call, a-write, a-rearming, a-placing, a-run, a-sample, after, after-all, reached, Event, sampled, disabled, samplings, accepted-samplings, samplings-of, disabling-of, events, events-of-all, history}
-use Rattle.laws.specs.Ledger.{Ledger, blank, sample-entry, landing-entry, word-entry, disabling-entry, error-entry, enter, enter-all, ledger, numbers}
+use Rattle.output.specs.Ledger.{Ledger, blank, sample-entry, numbers}
+use Rattle.laws.specs.Ledger.{word-entry, error-entry, enter, enter-all, ledger}
 use Rattle.laws.proofs.Errors.{no-word-in-error}
 use Rattle.laws.proofs.KeepsSample.{step-enable}
-
--- Rule 1.
-Landed : OutputState → Granted → Type 0
-Landed x g = landing-entry (g .landing) (numbers (x .output)) ≡ numbers (g .state .output)
-
-oldest-landed : (x : OutputState) (vs buffer : List ℕ) → Landed x (oldest-lands vs x buffer)
-unfolding Landed landing-entry oldest-lands lands no-landing holding with-held count-landed with-place with-counts
-oldest-landed x [] buffer = refl
-oldest-landed x (v ∷ vs) buffer =
-    either {x = lands v vs (x .output) buffer} {y = no-landing x buffer} (Landed x) (room (x .output .place) buffer) refl refl
-
-grant-landed : (granted on : Bool) (x : OutputState) (buffer : List ℕ) → Landed x (grant granted on x buffer)
-unfolding Landed landing-entry grant no-landing
-grant-landed granted on x buffer = either {y = no-landing x buffer} (Landed x) (granted && on) (oldest-landed x (contents x) buffer) refl
 
 -- Rule 9.
 held-or-lost : (v : ℕ) (c : Captured) (x : OutputState) → let a = complete (some v) c x in word-entry (a .packed) (numbers (x .output)) ≡ numbers (a .device .core .output)
@@ -55,8 +42,8 @@ held-or-lost v c x =
     refl
 
 emptied : (rises : Bool) (x : OutputState) → error-entry rises (numbers (x .output)) ≡ numbers (cond rises (discard 0 x) x .output)
-unfolding error-entry disabling-entry discard holding with-held count-discarded with-counts
-emptied true x = rw add-zero
+unfolding error-entry
+emptied true x = discard-entered x
 emptied false x = refl
 
 complete-counted : (o : Option ℕ) (c : Captured) (x : OutputState) → (c .error ≡ true → o ≡ none)
@@ -71,7 +58,7 @@ complete-counted (some v) c x alone = ap (λ rises. error-entry rises (word-entr
 
 pub step-counted : (d : Device) (b : List ℕ) (w : ℕ)
     → enter (numbers (d .core .output)) (sampled (d .core .capture) w (step d b w .landing) (step d b w .packed)) ≡ numbers (step d b w .device .core .output)
-unfolding step after-grant counted count-sample with-counts enter sample-entry Landed
+unfolding step after-grant counted count-sample with-counts enter sample-entry
 step-counted d b w =
     rw (grant-landed (bus-grant w) (enable (d .core .capture .registers .cr)) (counted (output-of d)) b) (complete-counted _ _ _ (no-word-in-error (d .core .capture) w))
 
@@ -101,8 +88,8 @@ none-disabled d d′ same = rw same (go (enable (d .core .capture .registers .cr
 
 -- Register writes: CR alone disables.
 control-counted : (falls : Bool) (x : OutputState) → enter-all (numbers (x .output)) (cond falls (disabled ∷ []) []) ≡ numbers (cond falls (discard 0 x) x .output)
-unfolding enter-all enter disabling-entry discard holding with-held count-discarded with-counts
-control-counted true x = rw add-zero
+unfolding enter-all enter
+control-counted true x = discard-entered x
 control-counted false x = refl
 
 write-at-counted : (d : Device) (r : Found) (v : ℕ) → Tell (disabling-of d (write-at d r v)) d (write-at d r v)

@@ -12,7 +12,7 @@ use Rattle.codes.specs.declared.Waiting.{Waiting}
 use Rattle.codes.specs.declared.Waiting.the-variants.{Zero, One, Two, Three}
 use Rattle.codes.specs.Bytes.{waiting-count, is-code, waiting-after, released}
 use Rattle.codes.specs.Meaning.{meaning}
-use Rattle.output.specs.Output.{grant}
+use Rattle.output.specs.Output.{grant, counted}
 use Rattle.rules.specs.declared.Frame.{Frame}
 use Rattle.rules.specs.declared.Frame.the-variants.{Closed, Open}
 use Rattle.rules.specs.declared.Capture.{Capture}
@@ -21,7 +21,7 @@ use Rattle.rules.specs.State.{capture-of, output-of, raise, clear-capture, clos
 use Rattle.rules.specs.Capture.{Captured, no-word, flagged, working-edge, enabled, remember-pins}
 use Rattle.rules.specs.Codes.{arrived, byte-in, taken-out, at-code, at-byte}
 use Rattle.rules.specs.Sample.{byte-of, edge, capture-sample}
-use Rattle.rules.specs.Run.{lose-frame, after-grant, counted, step}
+use Rattle.rules.specs.Run.{lose-frame, after-grant, step}
 use Rattle.laws.proofs.Coded.{each-joined}
 use Rattle.laws.proofs.Pace.{at-code-waits}
 use Rattle.laws.proofs.KeepsSample.{by-word}

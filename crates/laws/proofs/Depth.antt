@@ -10,12 +10,12 @@ use Rattle.registers.specs.declared.Found.{Found}
 use Rattle.registers.specs.declared.Found.the-variants.{At, Nothing}
 use Rattle.refusals.specs.Refusals.{_⇒_, first}
 use Rattle.samples.specs.Samples.{bus-grant}
-use Rattle.output.specs.Output.{OutputState, with-held, holding, with-counts, with-place, count-sample, count-discarded, fresh-output, discard}
+use Rattle.output.specs.Output.{OutputState, with-held, holding, with-counts, with-place, count-sample, count-discarded, fresh-output, discard, counted}
 use Rattle.output.proofs.Untouched.{grant-untouched, offer-untouched}
 use Rattle.rules.specs.declared.Device.{Device}
 use Rattle.rules.specs.State.{output-of, fresh-of}
 use Rattle.rules.specs.RegisterCalls.{disables, write-at, write-refusal, write, rearmed, rearm}
-use Rattle.rules.specs.Run.{after-grant, counted, step, steps, run-refusal, run, sample}
+use Rattle.rules.specs.Run.{after-grant, step, steps, run-refusal, run, sample}
 use Rattle.rules.specs.WellFormed.{malformed}
 use Rattle.laws.specs.Histories.{Call, a-write, a-rearming, a-placing, a-run, a-sample, after, reached}
 use Rattle.laws.proofs.KeepsSample.{by-word}

@@ -18,7 +18,7 @@ use Rattle.rules.specs.State.{no-partial, raise, close-frame, with-syncs, with-
 use Rattle.rules.specs.Capture.{Captured, no-word, working-edge, enabled, at-edge}
 use Rattle.rules.specs.Codes.{seeks, arrived, each-datum, byte-in, closes, errs, at-code, at-byte}
 use Rattle.rules.specs.Sample.{edge, capture-sample}
-use Rattle.laws.proofs.RegisterValues.{raised-up}
+use Rattle.bits.proofs.Raised.{raised-up}
 use Rattle.laws.proofs.ByCode.{by-code, by-sample}
 
 -- Where ERR rises: the frame closed, the partial word dropped, only a frame start counts, and FRAME is not due.

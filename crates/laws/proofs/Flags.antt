@@ -28,7 +28,7 @@ use Rattle.rules.specs.RegisterCalls.{enabling, disabling, switch-enable, captu
 use Rattle.rules.specs.Run.{lose-frame, after-grant, step, steps, run-refusal, run, sample}
 use Rattle.rules.specs.WellFormed.{malformed}
 use Rattle.laws.specs.Histories.{Call, a-write, a-rearming, a-placing, a-run, a-sample, after, after-all, reached, Event, sampled, disabled, samplings, accepted-samplings, samplings-of, events, events-of-all, history, no-errors, without-codes}
-use Rattle.laws.proofs.RegisterValues.{above, raised-other}
+use Rattle.bits.proofs.Raised.{above, raised-other}
 use Rattle.laws.proofs.Errors.{risen-in-error, no-error-by-pins}
 use Rattle.laws.proofs.Kept.{flagged-kept}
 use Rattle.laws.proofs.Sampled.{sample-left}

@@ -15,7 +15,8 @@ use Rattle.rules.specs.declared.Frame.{Frame}
 use Rattle.rules.specs.declared.Frame.the-variants.{Closed, Open}
 use Rattle.rules.specs.declared.Capture.{Capture}
 use Rattle.rules.specs.CropWindow.{lines-to-window-end}
-use Rattle.rules.specs.State.{with-ris, with-registers, with-syncs, with-frame, with-rate, with-partial, raised, raise, close-frame}
+use Rattle.bits.specs.Bits.{raised}
+use Rattle.rules.specs.State.{with-ris, with-registers, with-syncs, with-frame, with-rate, with-partial, raise, close-frame}
 use Rattle.rules.specs.Capture.{Captured, no-word, any-blanks, vsync-flag, line-flag, sync-flags, window-ended, hsync-after-window, frame-rises, frame-due, end-of, frame-closes, frame-end, starts, takes, open-frame, start-of, frame-start, line-begins, next-pixel, captured, pack, pixel, pixel-in, pixel-edge, at-edge}
 use Rattle.laws.specs.FrameHistory.{FrameHistory, no-history, last-line-begun, edge-starts, edge-entry}
 use Rattle.laws.proofs.WindowLines.{over, over-blanks, over-pixel, over-none, risen-on, risen-by-end, last-begun}

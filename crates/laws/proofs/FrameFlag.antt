@@ -32,7 +32,7 @@ use Rattle.rules.specs.Codes.{coded-syncs, arrived, byte-in, taken-out, frame-o
 use Rattle.rules.specs.Sample.{byte-of, edge, capture-sample}
 use Rattle.rules.specs.Run.{lose-frame, after-word, complete, after-grant, step}
 use Rattle.laws.specs.FrameHistory.{byte-due, due-at, is-lost}
-use Rattle.laws.proofs.RegisterValues.{raised-other, raised-up}
+use Rattle.bits.proofs.Raised.{raised-other, raised-up}
 use Rattle.laws.proofs.FrameEdges.{with-flags, sync-flags-flagged}
 use Rattle.laws.proofs.FrameCodes.{each-same, due-by-codes, pins-byte-due}
 use Rattle.laws.proofs.ByCode.{by-code, by-sample}

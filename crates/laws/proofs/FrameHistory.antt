@@ -38,7 +38,8 @@ use Rattle.rules.specs.Capture.{Captured, no-word, working-edge, enabled, remem
 use Rattle.rules.specs.Codes.{at-byte}
 use Rattle.rules.specs.Sample.{byte-of, edge, capture-sample}
 use Rattle.rules.specs.RegisterCalls.{changes-setup, fixed-at, register-tests, enabling, disabling, switch-enable, capture-rises, switch-capture, write-control, clear-flags, write-register, write-at, write-refusal, write, rearmed, rearm}
-use Rattle.rules.specs.Run.{Packed, lose-frame, after-grant, step, steps, run-refusal, run, sample}
+use Rattle.output.specs.Output.{Packed}
+use Rattle.rules.specs.Run.{lose-frame, after-grant, step, steps, run-refusal, run, sample}
 use Rattle.rules.specs.WellFormed.{malformed}
 use Rattle.rules.proofs.WellFormed.{CaptureOk, facts}
 use Rattle.laws.specs.Histories.{Call, a-write, a-rearming, a-placing, a-run, a-sample, after, after-all, reached, Event, sampled, samplings, accepted-samplings, samplings-of, disabling-of, events, events-of-all, history}

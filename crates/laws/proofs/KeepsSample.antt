@@ -12,7 +12,7 @@ use Rattle.registers.specs.Control.{snapshot, enable}
 use Rattle.samples.specs.Samples.{bus-grant}
 use Rattle.output.specs.declared.Fate.{Fate}
 use Rattle.output.specs.declared.Fate.the-variants.{Held, Lost}
-use Rattle.output.specs.Output.{holding, with-held, contents, count-word, count-discarded, OutputState, count-sample, with-counts, grant, Offered, offer, discard}
+use Rattle.output.specs.Output.{holding, with-held, contents, count-word, count-discarded, OutputState, count-sample, with-counts, grant, Offered, offer, discard, counted}
 use Rattle.output.specs.WellFormed.{Laid}
 use Rattle.output.proofs.WellFormed.{OutputOk, enabling-ok, count-sample-ok, grant-ok, held-ok, lost-ok, discard-ok}
 use Rattle.output.proofs.Untouched.{grant-untouched, offer-untouched, discard-laid}
@@ -21,10 +21,11 @@ use Rattle.rules.specs.declared.Device.{Device}
 use Rattle.rules.specs.State.{device, capture-of, output-of, with-cr, with-ris, with-registers, with-pins, with-frame, with-partial, raise, clear-capture, close-frame}
 use Rattle.rules.specs.Capture.{Captured, flagged, remember-pins}
 use Rattle.rules.specs.Sample.{capture-sample, next-capture}
-use Rattle.rules.specs.Run.{lose-frame, after-word, complete, after-grant, counted, step}
+use Rattle.rules.specs.Run.{lose-frame, after-word, complete, after-grant, step}
 use Rattle.bits.proofs.Booleans.{by-cond, either}
 use Rattle.rules.proofs.WellFormed.{CaptureOk, WellFormed}
-use Rattle.laws.proofs.RegisterValues.{lowered-half, half-enable}
+use Rattle.bits.proofs.Raised.{lowered-half}
+use Rattle.laws.proofs.RegisterValues.{half-enable}
 use Rattle.laws.proofs.CaptureParts.{raise-ok, clear-capture-ok, close-frame-ok}
 use Rattle.laws.proofs.Kept.{flagged-kept}
 use Rattle.laws.proofs.Sampled.{sample-left, sample-ok, word-enabled, next-half, next-enable}

@@ -22,8 +22,7 @@ use Rattle.output.proofs.WellFormed.{enabling-ok, discard-ok}
 use Rattle.refusals.specs.Refusals.{_⇒_, first}
 use Rattle.rules.specs.WellFormed.{malformed, excluded}
 use Rattle.rules.specs.RegisterCalls.{reserved-at, unsupported-at, fixed-at, register-tests, write-refusal, write-control, clear-flags, write-register, write-at, write, placed, rearmed, rearm}
-use Rattle.rules.proofs.Booleans.{and-false-left, not-is-true}
-use Rattle.bits.proofs.Booleans.{by-cond, either}
+use Rattle.bits.proofs.Booleans.{and-false-left, not-is-true, by-cond, either}
 use Rattle.rules.proofs.WellFormed.{CaptureOk, WellFormed, facts, well-formed}
 use Rattle.laws.proofs.RegisterValues.{allowed, not-excluded}
 use Rattle.laws.proofs.CaptureParts.{registers-ok}

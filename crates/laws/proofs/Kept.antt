@@ -18,7 +18,8 @@ use Rattle.rules.specs.Capture.{Captured, flagged, vsync-flag, line-flag, sync-
 use Rattle.rules.specs.WellFormed.{unused-bits}
 use Rattle.bits.proofs.Booleans.{and-true, by-cond, either}
 use Rattle.rules.proofs.WellFormed.{CaptureOk}
-use Rattle.laws.proofs.RegisterValues.{raised-other, lowered-half, allowed, capture-enable}
+use Rattle.bits.proofs.Raised.{raised-other, lowered-half}
+use Rattle.laws.proofs.RegisterValues.{allowed, capture-enable}
 use Rattle.laws.proofs.CaptureParts.{none-partial, raise-ok, clear-capture-ok, close-frame-ok}
 
 pub record Kept (s t : Capture) : Type 0 where

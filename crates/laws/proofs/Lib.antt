@@ -21,6 +21,7 @@ pub mod FrameCodes
 pub mod FrameHistory
 pub mod FrameFlag
 pub mod Unpadded
+pub mod UnpaddedSample
 pub mod Before
 pub mod Depth
 pub mod NoDevice

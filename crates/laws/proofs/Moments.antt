@@ -9,17 +9,16 @@ use Prim.Native.Nat.{ℕ, _+_, _≤_}
 use native.Mathlib.Omega.{arith}
 use lib.Dec.{eqb, ltb}
 use lib.ListN.{length, drop, length-append}
-use borrow.Author.Tests.{eqb-true, le-ltb, ltb-false}
-use Rattle.bits.proofs.Booleans.{or-false, by-cond, either}
+use borrow.Author.Tests.{eqb-true, le-ltb}
+use Rattle.bits.proofs.Booleans.{or-false, by-cond, either, both-false}
 use Rattle.registers.specs.Control.{enable}
-use Rattle.refusals.specs.Refusals.{_⇒_}
-use Rattle.refusals.proofs.Accepted.{accepted}
 use Rattle.samples.specs.Samples.{bad-sample, any-bad}
+use Rattle.run_refusals.proofs.Passed.{passed}
 use Rattle.rules.specs.declared.Capture.{Capture}
 use Rattle.rules.specs.declared.Device.{Device}
-use Rattle.rules.specs.Run.{Packed, step, steps, run-refusal, run, sample}
+use Rattle.output.specs.Output.{Packed}
+use Rattle.rules.specs.Run.{step, steps, run-refusal, run, sample}
 use Rattle.rules.specs.WellFormed.{malformed}
-use Rattle.rules.proofs.Booleans.{both-false}
 use Rattle.laws.specs.Histories.{Call, a-write, a-rearming, a-placing, a-run, a-sample, after, after-all, Event, sampled, disabled, samplings, accepted-samplings, samplings-of, disabling-of, events, events-of-all}
 use Rattle.laws.proofs.KeepsSample.{step-enable}
 use Rattle.laws.proofs.CountsFromHistory.{steps-enable, none-disabled}
@@ -82,10 +81,9 @@ fewer-accepted : (d : Device) (memory : List ℕ) (start : ℕ) (xs ys : List �
 unfolding run-refusal
 fewer-accepted d memory start xs ys e =
     let n = d .core .output .counts .samples in
-    let tests = malformed d ⇒ 1 ∷ ltb (length memory) start ⇒ 9 ∷ any-bad (xs ++ ys) ⇒ 7 ∷ ltb 4294967295 (n + length (xs ++ ys)) ⇒ 8 ∷ [] in
-    let (well, (within, (good, (few, end)))) = accepted tests (omega arith) e in
-    let fewer : n + length xs ≤ 4294967295 = omega (arith, ltb-false 4294967295 (n + length (xs ++ ys)) few, length-append xs ys) in
-    rw (well, within, fewer-good xs ys good, le-ltb 4294967295 (n + length xs) fewer)
+    let p = passed (malformed d) (ltb (length memory) start) n (xs ++ ys) e in
+    let fewer : n + length xs ≤ 4294967295 = omega (arith, p .fits, length-append xs ys) in
+    rw (p .well, p .within, fewer-good xs ys (p .good), le-ltb 4294967295 (n + length xs) fewer)
 
 -- A call leaves no event but its samples where ENABLE stays.
 samples-alone : (d d′ : Device) (es : List Event) → enable (d′ .core .capture .registers .cr) ≡ enable (d .core .capture .registers .cr) → es ++ disabling-of d d′ ≡ es

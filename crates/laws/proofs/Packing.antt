@@ -12,7 +12,7 @@ use Rattle.packing.proofs.Lanes.{joined-partial, joined-fits}
 use Rattle.rules.specs.declared.Capture.{Capture}
 use Rattle.rules.specs.Capture.{packed-bits}
 use Rattle.rules.specs.WellFormed.{unused-bits}
-use Rattle.rules.proofs.Booleans.{not-is-false}
+use Rattle.bits.proofs.Booleans.{not-is-false}
 use Rattle.rules.proofs.WellFormed.{CaptureOk}
 
 -- EDM has two bits.

@@ -1,29 +1,21 @@
--- What the rules make of a register's value: a raised flag keeps RIS at most 31 and its other flags, and clearing CAPTURE keeps every other field of CR.
--- The idea: two values with the same half have the same bits from bit 1 on. Assumes nothing.
+-- What the rules make of a register's value: a raised flag keeps RIS at most 31, and clearing CAPTURE keeps every other field of CR.
+-- The idea: two values with the same half have the same bits from bit 1 on (`bits` Raised). Assumes nothing.
 use mathlib.Core.Bool.{Bool, true, false, not, _&&_, _||_}
 use mathlib.Core.List.{List, [], _∷_}
-use mathlib.Core.Path.{_≡_, refl, ap}
+use mathlib.Core.Path.{_≡_, refl}
 use Prim.Native.Nat.{ℕ, zero, suc, _+_, _-_, _/_, _%_, _^_, _≤_}
-use native.Mathlib.Nat.{div-div-eq-div-mul, pow-succ'}
 use native.Mathlib.Omega.{arith}
 use lib.Dec.{eqb}
-use borrow.Author.Tests.{eqb-true, eqb-false, eq-eqb, ne-eqb, not-false}
-use Rattle.bits.specs.Bits.{bit, field}
+use borrow.Author.Tests.{ne-eqb, not-false}
+use Rattle.bits.specs.Bits.{bit, field, raised, lowered}
 use Rattle.registers.specs.Control.{capture, crop, jpeg, embedded, fcrc, edm, enable, unsupported-jpeg, unsupported-codes, unsupported, pckpol, vspol}
 use Rattle.registers.specs.Map.{reserved-set}
 use Rattle.registers.specs.declared.Register.the-variants.{Control, InterruptEnable, WindowStart, WindowSize}
 use Rattle.rules.specs.declared.Registers.{Registers}
-use Rattle.rules.specs.State.{raised, lowered, with-cr}
+use Rattle.rules.specs.State.{with-cr}
 use Rattle.rules.specs.WellFormed.{excluded}
-use Rattle.bits.proofs.Booleans.{or-false}
-use Rattle.rules.proofs.Booleans.{both-false, and-false, None, none, none-any}
-use Rattle.bits.proofs.Booleans.{by-cond}
-
-bit-true : (k x : ℕ) → bit k x ≡ true → x / 2 ^ k % 2 ≡ 1
-bit-true k x e = eqb-true (x / 2 ^ k % 2) 1 e
-
-bit-false : (k x : ℕ) → bit k x ≡ false → x / 2 ^ k % 2 ≡ 0
-bit-false k x e = let h = eqb-false (x / 2 ^ k % 2) 1 e in omega arith
+use Rattle.bits.proofs.Raised.{bit-true, bit-false, same-above, lowered-half}
+use Rattle.bits.proofs.Booleans.{or-false, both-false, and-false, None, none, none-any, by-cond}
 
 -- A flag that is 0 leaves room for it.
 raised-where : (k x : ℕ) → (x / 2 ^ k % 2 ≡ 0 → x + 2 ^ k ≤ 31) → x ≤ 31 → raised k x ≤ 31
@@ -37,41 +29,6 @@ raised-fits (suc (suc zero)) x flag h = raised-where 2 x (omega arith) h
 raised-fits (suc (suc (suc zero))) x flag h = raised-where 3 x (omega arith) h
 raised-fits (suc (suc (suc (suc zero)))) x flag h = raised-where 4 x (omega arith) h
 raised-fits (suc (suc (suc (suc (suc k))))) x flag h = absurd (omega arith)
-
--- Bits from bit 1 on.
-pub above : (k x : ℕ) → x / 2 ^ suc k ≡ x / 2 / 2 ^ k
-above k x = rw (pow-succ' 2 k, div-div-eq-div-mul)
-
-same-above : (k x y : ℕ) → x / 2 ≡ y / 2 → x / 2 ^ suc k ≡ y / 2 ^ suc k
-same-above k x y h = rw (above k x, above k y, h)
-
--- Raising a flag that is 0 carries into no other bit.
-carry : (j k x : ℕ) → ¬ (j ≡ k) → ¬ (x / 2 ^ k % 2 ≡ 1) → (x + 2 ^ k) / 2 ^ j % 2 ≡ x / 2 ^ j % 2
-carry zero zero x other off = absurd (other refl)
-carry zero (suc k) x other off = rw (pow-succ' 2 k) (omega arith)
-carry (suc j) zero x other off = rw (same-above j (x + 1) x (omega arith))
-carry (suc j) (suc k) x other off =
-    let half : (x + 2 ^ suc k) / 2 ≡ x / 2 + 2 ^ k = rw (pow-succ' 2 k) (omega arith) in
-    rw (above j (x + 2 ^ suc k), above j x, half) (carry j k (x / 2) (λ e. other (ap suc e)) (rw (above k x) at off))
-
-pub raised-other : (j k x : ℕ) → ¬ (j ≡ k) → bit j (raised k x) ≡ bit j x
-unfolding raised
-raised-other j k x other = by-cond (λ y. bit j y ≡ bit j x) (bit k x) _ _ (λ e. refl) (λ e. rw (carry j k x other (eqb-false _ 1 e)))
-
--- And it raises that flag.
-carried : (k x : ℕ) → ¬ (x / 2 ^ k % 2 ≡ 1) → (x + 2 ^ k) / 2 ^ k % 2 ≡ 1
-carried zero x off = omega arith
-carried (suc k) x off =
-    let half : (x + 2 ^ suc k) / 2 ≡ x / 2 + 2 ^ k = rw (pow-succ' 2 k) (omega arith) in
-    rw (above k (x + 2 ^ suc k), half) (carried k (x / 2) (rw (above k x) at off))
-
-pub raised-up : (k x : ℕ) → bit k (raised k x) ≡ true
-unfolding raised
-raised-up k x = by-cond (λ y. bit k y ≡ true) (bit k x) _ _ (λ on. on) (λ off. eq-eqb _ 1 (carried k x (eqb-false _ 1 off)))
-
-pub lowered-half : (x : ℕ) → lowered 0 x / 2 ≡ x / 2
-unfolding lowered
-lowered-half x = by-cond (λ y. y / 2 ≡ x / 2) (bit 0 x) _ _ (λ e. omega (arith, bit-true 0 x e)) (λ e. refl)
 
 lowered-capture : (x : ℕ) → capture (lowered 0 x) ≡ false
 unfolding lowered

@@ -13,7 +13,7 @@ use Rattle.registers.specs.Control.{capture, snapshot, embedded, enable}
 use Rattle.samples.specs.Samples.{bus-grant}
 use Rattle.output.specs.declared.Fate.{Fate}
 use Rattle.output.specs.declared.Fate.the-variants.{Held, Lost}
-use Rattle.output.specs.Output.{OutputState, with-held, holding, with-counts, count-sample, count-discarded, grant, offer, discard}
+use Rattle.output.specs.Output.{OutputState, with-held, holding, with-counts, count-sample, count-discarded, grant, offer, discard, nothing, lost, counted}
 use Rattle.output.proofs.Untouched.{Untouched, grant-untouched}
 use Rattle.codes.specs.declared.Waiting.the-variants.{Zero}
 use Rattle.codes.specs.declared.Meaning.{Meaning}
@@ -29,7 +29,7 @@ use Rattle.rules.specs.State.{device, output-of, is-open, not-blanking, no-part
 use Rattle.rules.specs.Capture.{Captured, no-word, flagged, working-edge, enabled, remember-pins}
 use Rattle.rules.specs.Codes.{seeks, arrived, byte-in, taken-out, frame-opens, sought, at-code, at-byte, frame-ended}
 use Rattle.rules.specs.Sample.{byte-of, edge, capture-sample}
-use Rattle.rules.specs.Run.{nothing, lost, lose-frame, after-word, complete, after-grant, counted, step, steps}
+use Rattle.rules.specs.Run.{lose-frame, after-word, complete, after-grant, step, steps}
 use Rattle.rules.specs.RegisterCalls.{enabling, disabling, switch-enable, capture-rises, switch-capture, write-control}
 use Rattle.laws.specs.Seeking.{counts, found-by, found-at, none-found, NoWords, SearchGoesOn, Emptied, Runs-in, Runs}
 use Rattle.laws.proofs.Errors.{no-word-in-error, fallen-in-error}

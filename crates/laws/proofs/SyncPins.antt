@@ -13,7 +13,7 @@ use Rattle.packing.specs.Packing.{per-word}
 use Rattle.samples.specs.Samples.{pixel-data, clock-pin, bus-grant}
 use Rattle.output.specs.declared.Fate.{Fate}
 use Rattle.output.specs.declared.Fate.the-variants.{Held, Lost}
-use Rattle.output.specs.Output.{OutputState, grant, offer}
+use Rattle.output.specs.Output.{OutputState, grant, offer, counted}
 use Rattle.codes.specs.declared.Waiting.the-variants.{Zero}
 use Rattle.codes.specs.declared.Meaning.{Meaning}
 use Rattle.codes.specs.declared.Meaning.the-variants.{FrameEnd, FrameStart, LineEnd, LineStart, Unmatched}
@@ -30,7 +30,7 @@ use Rattle.rules.specs.State.{device, capture-of, output-of, is-open, not-blank
 use Rattle.rules.specs.Capture.{Captured, no-word, flagged, working-edge, enabled, remember-pins, vsync-flag, line-flag, sync-flags, window-ended, hsync-after-window, frame-rises, frame-due, end-of, frame-closes, next-rate, takes, in-window, captured, packed-bits, pack, either-word}
 use Rattle.rules.specs.Codes.{in-line, coded-syncs, seeks, arrived, before, datum, each-datum, byte-in, taken-out, frame-opens, line-opens, closes, errs, line-start, obeyed, sought, at-code, at-byte, line-ended, frame-ended}
 use Rattle.rules.specs.Sample.{byte-of, edge, capture-sample}
-use Rattle.rules.specs.Run.{lose-frame, Completed, after-word, complete, after-grant, Stepped, counted, step}
+use Rattle.rules.specs.Run.{lose-frame, Completed, after-word, complete, after-grant, Stepped, step}
 use Rattle.laws.specs.Before.{stepped-by}
 use Rattle.laws.specs.SyncPins.{without-levels, unleveled, stepped-unleveled, SameButSyncs, AllSameButSyncs}
 use Rattle.laws.proofs.RegisterValues.{same-embedded, half-setup}

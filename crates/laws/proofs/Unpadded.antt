@@ -10,17 +10,16 @@ use lib.Dec.{ltb}
 use Rattle.bits.proofs.Booleans.{and-zero, or-true, either}
 use Rattle.registers.specs.Control.{crop, jpeg, embedded, vspol}
 use Rattle.samples.specs.Samples.{pixel-data, vsync-pin, bus-grant}
-use Rattle.output.specs.Output.{grant}
+use Rattle.output.specs.Output.{grant, counted}
 use Rattle.rules.specs.declared.Syncs.{Syncs}
 use Rattle.rules.specs.declared.Frame.{Frame}
 use Rattle.rules.specs.declared.Frame.the-variants.{Closed, Open}
 use Rattle.rules.specs.declared.Capture.{Capture}
 use Rattle.rules.specs.declared.Device.{Device}
 use Rattle.rules.specs.State.{capture-of, output-of, close-frame, with-frame, with-partial, raise, with-ris, with-registers, with-pins, with-syncs}
-use Rattle.rules.specs.Capture.{no-word, flagged, working-edge, enabled, remember-pins, blanking, any-blanks, vsync-flag, line-flag, sync-flags, frame-rises, frame-due, padded, frame-closes, frame-pads, frame-end, frame-start, pixel-edge, either-word, at-edge}
+use Rattle.rules.specs.Capture.{no-word, flagged, working-edge, enabled, remember-pins, blanking, any-blanks, vsync-flag, line-flag, sync-flags, frame-rises, frame-due, padded, frame-closes, frame-pads, padded-at, frame-end, frame-start, pixel-edge, either-word, at-edge}
 use Rattle.rules.specs.Sample.{edge, capture-sample}
-use Rattle.rules.specs.Run.{counted, lose-frame, after-grant, step}
-use Rattle.laws.specs.Padding.{padded-at}
+use Rattle.rules.specs.Run.{lose-frame, after-grant, step}
 use Rattle.laws.proofs.Kept.{flagged-kept, early-kept}
 use Rattle.laws.proofs.KeepsSample.{by-word}
 use Rattle.laws.proofs.Moved.{no-pixel}
@@ -54,6 +53,12 @@ seen-pads w s at = ap (λ (o : Option ℕ). cond (at .vsync) o none) (seen-padde
 pub pads-seen : (s : Capture) (w : ℕ) (now : Syncs) → frame-pads (sync-flags (remember-pins w s) now) now ≡ frame-pads s now
 pads-seen s w now = flags-pad (remember-pins w s) now now ∙ seen-pads w s now
 
+-- Where none is padded at a frame's end.
+none-padded : (s : Capture) (w : ℕ) → padded (s .frame) s ≡ none → padded-at s w ≡ none
+unfolding padded-at frame-pads
+none-padded s w e =
+    rw e (either (λ (o : Option ℕ). o ≡ none) (working-edge s w && enabled s) (either (λ (o : Option ℕ). o ≡ none) (blanking s w .vsync) refl refl) refl)
+
 -- Without JPEG.
 unpadded : (f : Frame) (s : Capture) → jpeg (s .registers .cr) ≡ false → padded f s ≡ none
 unfolding padded
@@ -61,10 +66,7 @@ unpadded Closed s e = refl
 unpadded (Open taken f) s e = rw (e, and-zero taken)
 
 pub none-without-jpeg : (s : Capture) (w : ℕ) → jpeg (s .registers .cr) ≡ false → padded-at s w ≡ none
-unfolding padded-at frame-pads
-none-without-jpeg s w e =
-    rw (unpadded (s .frame) s e)
-    (either (λ (o : Option ℕ). o ≡ none) (working-edge s w && enabled s) (either (λ (o : Option ℕ). o ≡ none) (blanking s w .vsync) refl refl) refl)
+none-without-jpeg s w e = none-padded s w (unpadded (s .frame) s e)
 
 -- Where VSYNC does not blank.
 pub none-unless-vsync : (s : Capture) (w : ℕ) → Bool·beq (vsync-pin w) (vspol (s .registers .cr)) ≡ false → padded-at s w ≡ none
@@ -78,10 +80,7 @@ no-data Closed s e = refl
 no-data (Open taken f) s e = rw (e, and-zero (taken && jpeg (s .registers .cr)))
 
 pub none-without-data : (s : Capture) (w : ℕ) → s .partial .count ≡ 0 → padded-at s w ≡ none
-unfolding padded-at frame-pads
-none-without-data s w e =
-    rw (no-data (s .frame) s e)
-    (either (λ (o : Option ℕ). o ≡ none) (working-edge s w && enabled s) (either (λ (o : Option ℕ). o ≡ none) (blanking s w .vsync) refl refl) refl)
+none-without-data s w e = none-padded s w (no-data (s .frame) s e)
 
 edge-without-data : (s : Capture) (now : Syncs) (x : ℕ) → now .vsync ≡ true → s .partial .count ≡ 0 → at-edge s now x .state .partial .count ≡ 0
 unfolding at-edge frame-end pixel-edge with-syncs no-word

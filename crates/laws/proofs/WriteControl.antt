@@ -17,9 +17,7 @@ use Rattle.rules.specs.declared.Capture.{Capture}
 use Rattle.rules.specs.State.{is-open, close-frame, with-cr, with-registers, with-syncs, with-frame, with-rate, with-partial, with-waiting}
 use Rattle.rules.specs.WellFormed.{excluded, unused-bits, lines, pixels}
 use Rattle.rules.specs.RegisterCalls.{changes-setup, enabling, disabling, switch-enable, capture-rises, switch-capture, write-control}
-use Rattle.bits.proofs.Booleans.{or-false}
-use Rattle.rules.proofs.Booleans.{and-false}
-use Rattle.bits.proofs.Booleans.{by-cond, either}
+use Rattle.bits.proofs.Booleans.{or-false, and-false, by-cond, either}
 use Rattle.rules.proofs.WellFormed.{CaptureOk}
 use Rattle.laws.proofs.RegisterValues.{allowed-cr}
 use Rattle.laws.proofs.Packing.{used, unused}

@@ -5,15 +5,16 @@ use mathlib.Core.Option.{Option, none, some}
 use Prim.Native.Nat.{ℕ}
 use Rattle.registers.specs.Control.{snapshot}
 use Rattle.samples.specs.Samples.{pixel-data, bus-grant}
-use Rattle.output.specs.Output.{OutputState, grant, offer}
+use Rattle.output.specs.Output.{OutputState, grant, offer, nothing, counted}
 use Rattle.rules.specs.declared.Syncs.{Syncs}
 use Rattle.rules.specs.declared.Frame.{Frame}
 use Rattle.rules.specs.declared.Frame.the-variants.{Closed, Open}
 use Rattle.rules.specs.declared.Capture.{Capture}
 use Rattle.rules.specs.declared.Device.{Device}
 use Rattle.rules.specs.State.{device, capture-of, output-of, with-syncs, raise, clear-capture, close-frame}
-use Rattle.rules.specs.Capture.{Captured, no-word, flagged, working-edge, enabled, remember-pins, blanking, sync-flags, frame-due, frame-closes, frame-start, pixel-edge, at-edge}
-use Rattle.rules.specs.Run.{nothing, Completed, after-word, Stepped, counted}
+use Rattle.rules.specs.Capture.{Captured, no-word, flagged, working-edge, enabled, remember-pins, blanking, sync-flags, frame-start, pixel-edge, at-edge}
+use Rattle.rules.specs.Unpadded.{unpadded-sample}
+use Rattle.rules.specs.Run.{Completed, after-word, Stepped}
 
 -- Before W1, rule 4 in document 01's words: an open frame closes when VSYNC blanks. A partial word is dropped. If the frame was one of those taken, FRAME rises and, with CM 1,
 -- CAPTURE becomes 0.
@@ -25,20 +26,16 @@ ends-before-W1 (Open taken f) s =
 unfoldable pub frame-end-before-W1 : Capture → Syncs → Capture
 frame-end-before-W1 s now = cond (now .vsync) (ends-before-W1 (s .frame) s) s
 
--- Before W4, rule 4 with W1: FRAME, and then the frame's end, which drops a partial word.
-unfoldable pub frame-end-before-W4 : Capture → Syncs → Capture
-frame-end-before-W4 s now = frame-closes (cond (frame-due (s .frame) s now) (raise 0 s) s) now
-
--- With one of them the rules 3 to 8 at a working edge, and the rules 2 to 8: FRAME rises in them, and none is due after them.
-unfoldable pub at-edge-by : (Capture → Syncs → Capture) → Capture → Syncs → ℕ → Captured
-at-edge-by frame-end s now x =
-    let p = pixel-edge (frame-start (frame-end (sync-flags s now) now) now) now x in
+-- Before W1, rules 3 to 8 at a working edge, and rules 2 to 8: FRAME rises in them, and none is due after them.
+unfoldable pub at-edge-before-W1 : Capture → Syncs → ℕ → Captured
+at-edge-before-W1 s now x =
+    let p = pixel-edge (frame-start (frame-end-before-W1 (sync-flags s now) now) now) now x in
     record { state = with-syncs now (p .state); word = p .word; due = false; error = false }
 
-unfoldable pub capture-sample-by : (Capture → Syncs → Capture) → Capture → ℕ → Captured
-capture-sample-by frame-end s w =
+unfoldable pub capture-sample-before-W1 : Capture → ℕ → Captured
+capture-sample-before-W1 s w =
     cond (working-edge s w && enabled s)
-    (at-edge-by frame-end (remember-pins w s) (blanking s w) (pixel-data w))
+    (at-edge-before-W1 (remember-pins w s) (blanking s w) (pixel-data w))
     (no-word (remember-pins w s))
 
 -- Before W6: the rules 2 to 8 by the sync pins alone, whatever ESS is.
@@ -62,10 +59,11 @@ step-by captures d buffer w =
     record { device = c .device; buffer = g .buffer; landing = g .landing; packed = c .packed }
 
 abbrev pub step-before-W1 : Device → List ℕ → ℕ → Stepped
-step-before-W1 = step-by (capture-sample-by frame-end-before-W1)
+step-before-W1 = step-by capture-sample-before-W1
 
+-- Before W4 no sample padded a word.
 abbrev pub step-before-W4 : Device → List ℕ → ℕ → Stepped
-step-before-W4 = step-by (capture-sample-by frame-end-before-W4)
+step-before-W4 = step-by unpadded-sample
 
 abbrev pub step-before-W6 : Device → List ℕ → ℕ → Stepped
 step-before-W6 = step-by capture-sample-before-W6

@@ -18,7 +18,7 @@ use Rattle.rules.specs.Capture.{working-edge, enabled, blanking, frame-due, sta
 use Rattle.rules.specs.State.{is-open}
 use Rattle.rules.specs.Codes.{in-line, seeks, line-ended, frame-ended}
 use Rattle.rules.specs.Sample.{byte-of}
-use Rattle.rules.specs.Run.{Packed, nothing, completed, lost}
+use Rattle.output.specs.Output.{Packed, nothing, completed, lost}
 use Rattle.laws.specs.Histories.{Event, sampled, disabled}
 
 -- Since the frame started, HSYNC has blanked at a working edge after line VST + VLINE had begun, or with ESS 1 an end code has come after that (W6); and how often FRAME was

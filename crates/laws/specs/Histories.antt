@@ -12,7 +12,8 @@ use Rattle.rules.specs.declared.Device.{Device}
 use Rattle.rules.specs.State.{fresh-of}
 use Rattle.rules.specs.RegisterCalls.{write, placed, rearm}
 use Rattle.rules.specs.Sample.{capture-sample}
-use Rattle.rules.specs.Run.{Packed, step, run-refusal, run, sample}
+use Rattle.output.specs.Output.{Packed}
+use Rattle.rules.specs.Run.{step, run-refusal, run, sample}
 
 -- A call. The value of a write is a 32-bit number. A placing sets the place of the next word, to one not above landed: what two buffers do between samples (W2); re-arming sets 0.
 pub data Call : Type 0 where

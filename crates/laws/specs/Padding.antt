@@ -1,12 +1,8 @@
--- Padding (request W4): the word that a sample pads; and filling a partial word with zero bytes by rule 8: so many zero data are packed, and the word that is then full.
-use mathlib.Core.Bool.{cond, _&&_}
+-- Padding (W4): a partial word filled with zero bytes by rule 8: so many zero data are packed, and the word that is then full.
 use mathlib.Core.Option.{Option, none}
 use Prim.Native.Nat.{ℕ, zero, suc}
 use Rattle.rules.specs.declared.Capture.{Capture}
-use Rattle.rules.specs.Capture.{working-edge, enabled, blanking, frame-pads, pack, either-word}
-
-unfoldable pub padded-at : Capture → ℕ → Option ℕ
-padded-at s w = cond (working-edge s w && enabled s) (frame-pads s (blanking s w)) none
+use Rattle.rules.specs.Capture.{pack, either-word}
 
 unfoldable pub zeros-packed : ℕ → Capture → Option ℕ
 zeros-packed zero s = none

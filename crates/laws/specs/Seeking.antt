@@ -16,7 +16,8 @@ use Rattle.rules.specs.State.{no-partial, capture-of}
 use Rattle.rules.specs.Capture.{working-edge, enabled}
 use Rattle.rules.specs.Codes.{seeks}
 use Rattle.rules.specs.Sample.{byte-of}
-use Rattle.rules.specs.Run.{nothing, step, steps}
+use Rattle.output.specs.Output.{nothing}
+use Rattle.rules.specs.Run.{step, steps}
 
 unfoldable pub counts : Meaning → ℕ → Bool
 counts FrameEnd escr = by-line-starts escr

@@ -4,10 +4,11 @@ use mathlib.Core.Path.{_≡_, refl, sym, ap, _∙_}
 use Prim.Native.Nat.{ℕ, _*_}
 use native.Mathlib.Omega.{arith}
 use lib.ListN.{length}
+use Rattle.numbers.specs.Numbers.{little}
 use Rattle.output.specs.Output.{bytes, all-bytes}
 
 pub all-bytes-length : (vs : List ℕ) → length (all-bytes vs) ≡ 4 * length vs
-unfolding all-bytes bytes
+unfolding all-bytes little
 all-bytes-length [] = refl
 all-bytes-length (v ∷ vs) = omega (arith, all-bytes-length vs)
 

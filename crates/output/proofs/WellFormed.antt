@@ -70,7 +70,7 @@ module _ {e : Bool} {x : OutputState} (q : OutputOk e x) where
   discard-ok more o depth completed place equation =
       record { depth = depth; held = omega arith; clear = clear-behind 0 [] (omega arith); idle = λ off. refl; completed = completed; place = place; equation = omega arith }
 
--- Rule 9, of a word more to be counted, with ENABLE 1: held it is well-formed; lost it is once it is discarded with the held words.
+-- Rule 9, of a word more to be counted, with ENABLE 1: held it is well-formed; lost it is once it is discarded, with the held words or alone.
 module _ {x : OutputState} (q : OutputOk true x) (counted : x .output .counts .completed < x .output .counts .samples) (v : ℕ) where
   pub held-ok : x .output .held < x .output .depth → OutputOk true (holding (x .output .held + 1) (contents x ++ v ∷ []) (count-word (x .output)))
   unfolding holding with-held count-word with-counts
@@ -88,3 +88,9 @@ module _ {x : OutputState} (q : OutputOk true x) (counted : x .output .counts .c
   pub lost-ok : {e : Bool} → OutputOk e (discard 1 (record { output = count-word (x .output); slots = x .slots }))
   unfolding count-word with-counts
   lost-ok = discard-ok q 1 (count-word (x .output)) (q .depth) (omega arith) (q .place) (omega (arith, q .equation))
+
+  -- Lost alone, the held words stay.
+  pub lost-alone-ok : OutputOk true (record { output = count-discarded 1 (count-word (x .output)); slots = x .slots })
+  unfolding count-discarded count-word with-counts
+  lost-alone-ok =
+      record { depth = q .depth; held = q .held; clear = q .clear; idle = q .idle; completed = omega arith; place = q .place; equation = omega (arith, q .equation) }

@@ -1,3 +1,4 @@
 pub mod Output
 pub mod WellFormed
 pub mod Answers
+pub mod Ledger

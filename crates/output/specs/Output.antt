@@ -3,9 +3,10 @@
 use mathlib.Core.Bool.{Bool, cond, _&&_}
 use mathlib.Core.List.{List, [], _∷_, _++_}
 use mathlib.Core.Option.{Option, none, some}
-use Prim.Native.Nat.{ℕ, _+_, _-_, _*_, _/_, _%_}
+use Prim.Native.Nat.{ℕ, _+_, _-_, _*_}
 use lib.Dec.{ltb, leb}
 use lib.ListN.{length, take, drop, getD, replicate}
+use Rattle.numbers.specs.Numbers.{little, number-at}
 use Rattle.output.specs.declared.Counts.{Counts}
 use Rattle.output.specs.declared.Output.{Output}
 use Rattle.output.specs.declared.Fate.{Fate}
@@ -61,6 +62,9 @@ count-sample o =
     let c = o .counts in
     with-counts (record { samples = c .samples + 1; completed = c .completed; landed = c .landed; discarded = c .discarded }) o
 
+unfoldable pub counted : OutputState → OutputState
+counted x = record { output = count-sample (x .output); slots = x .slots }
+
 -- One more word completed: the number of times rule 9 was reached.
 unfoldable pub count-word : Output → Output
 count-word o =
@@ -84,8 +88,8 @@ count-landed o =
     (with-counts (record { samples = c .samples; completed = c .completed; landed = c .landed + 1; discarded = c .discarded }) o)
 
 -- A word's four bytes, little-endian.
-unfoldable pub bytes : ℕ → List ℕ
-bytes v = v % 256 ∷ v / 256 % 256 ∷ v / 65536 % 256 ∷ v / 16777216 % 256 ∷ []
+abbrev pub bytes : ℕ → List ℕ
+bytes v = little 4 v
 
 -- The bytes of some words, in order.
 unfoldable pub all-bytes : List ℕ → List ℕ
@@ -100,9 +104,8 @@ unfoldable pub stored : ℕ → ℕ → List ℕ → List ℕ
 stored k v buffer = take (4 * k) buffer ++ bytes v ++ drop (4 * k + 4) buffer
 
 -- The word whose four bytes stand from a byte of a memory on; a byte beyond the end counts as 0.
-unfoldable pub word-at : List ℕ → ℕ → ℕ
-word-at memory at =
-    getD memory at 0 + 256 * getD memory (at + 1) 0 + 65536 * getD memory (at + 2) 0 + 16777216 * getD memory (at + 3) 0
+abbrev pub word-at : List ℕ → ℕ → ℕ
+word-at memory at = number-at memory at 4
 
 -- What rule 1 makes of output and frame buffer, and the byte of the buffer at which a word landed, if one did.
 pub record Granted : Type 0 where
@@ -141,3 +144,18 @@ offer v x =
 -- The held words and some more besides are discarded.
 unfoldable pub discard : ℕ → OutputState → OutputState
 discard more x = holding 0 [] (count-discarded (x .output .held + more) (x .output))
+
+-- A sample's second answer: whether it completed no word, completed one, with its value, or lost one.
+pub data Packed : Type 0 where
+  nothing : Packed
+  completed : ℕ → Packed
+  lost : Packed
+
+-- Its first answer, the landing, as a byte of the lent memory, in which the frame buffer begins at the start byte; and the two together.
+unfoldable pub in-memory : ℕ → Option ℕ → Option ℕ
+in-memory start none = none
+in-memory start (some byte) = some (start + byte)
+
+pub record SampleAnswer : Type 0 where
+  pub landing : Option ℕ
+  pub packed : Packed

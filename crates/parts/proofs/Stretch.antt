@@ -9,14 +9,15 @@ use lib.Dec.{eqb, ltb}
 use lib.ListN.{length, take, drop, getD, length-drop, take-append-drop, drop-of-length-le}
 use lib.Seq.{sets, length-sets, drop-cons, drop-drop, take-at, take-add, length-take-le, drop-length}
 use borrow.Author.Tests.{eqb-true, ltb-false}
+use Rattle.numbers.specs.Numbers.{number-at}
 use Rattle.rules.specs.declared.Device.{Device}
 use Rattle.rules.specs.Run.{RunResult, run}
 use Rattle.sampling.proofs.AcceptedRuns.{accepted-run}
 use Rattle.trace_format.specs.Format.{header-length, sample-size}
-use Rattle.trace_format.specs.Reading.{field, version-of, sample-count, sample-start, whole, header-refusal}
+use Rattle.trace_format.specs.Reading.{version-of, sample-count, sample-start, whole, header-refusal}
 use Rattle.trace.specs.Decoding.{samples-in, how-many}
 use Rattle.trace.proofs.ManySamples.{samples-in-length}
-use Rattle.trace_format.proofs.Putting.{put-over}
+use Rattle.numbers.proofs.Putting.{put-over}
 use Rattle.file_rules.specs.Parts.{Taken, no-item, wants, take-byte, take-bytes}
 use Rattle.parts.specs.Forward.{samples-left}
 use Rattle.file_rules.proofs.Taking.{at, bytes-append, counts}
@@ -36,14 +37,14 @@ none-taken start t (b ∷ bs) e = absurd (omega arith)
 
 -- The samples of some bytes, from fewer of them.
 front : (n : ℕ) (r : List ℕ) → sample-size * n ≤ length r → samples-in n (take (sample-size * n) r) ≡ samples-in n r
-unfolding samples-in field
+unfolding samples-in number-at
 front zero r h = refl
 front (suc n) [] h = absurd (omega arith)
 front (suc n) (a ∷ []) h = absurd (omega arith)
 front (suc n) (a ∷ b ∷ []) h = absurd (omega arith)
 front (suc n) (a ∷ b ∷ c ∷ r) h =
     let size : sample-size * suc n ≡ 3 + sample-size * n = omega arith in
-    rw (size, take-add 3 (sample-size * n) (a ∷ b ∷ c ∷ r)) (ap (λ (l : List ℕ). field (a ∷ b ∷ c ∷ []) 0 sample-size ∷ l) (front n r (omega arith)))
+    rw (size, take-add 3 (sample-size * n) (a ∷ b ∷ c ∷ r)) (ap (λ (l : List ℕ). number-at (a ∷ b ∷ c ∷ []) 0 sample-size ∷ l) (front n r (omega arith)))
 
 -- Where samples are left, one begins.
 pub record Begins (h : List ℕ) (n : ℕ) : Type 0 where

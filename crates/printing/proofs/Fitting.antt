@@ -6,11 +6,10 @@ use Prim.Native.Nat.{ℕ, zero, suc, _+_, _-_, _≤_, _<_, _^_, min}
 use native.Mathlib.Omega.{arith}
 use lib.Dec.{eqb}
 use lib.ListN.{length, getD, length-append}
-use Rattle.refusals.specs.Table.{number, outcome}
-use Rattle.refusals.specs.declared.Refusal.{Refusal}
-use Rattle.refusals.specs.declared.Refusal.the-variants.{Malformed, NoRegister, AccessKind, ReservedBit, Unsupported, Enabled, SampleBits, SampleTotal, StartBeyond, Mark, Version, SampleCount, Length, WriteCount, Room, BufferMode, Depth}
+use Rattle.refusals.specs.Table.{outcome}
 use Rattle.refusals.specs.declared.Outcome.{Outcome}
 use Rattle.refusals.specs.declared.Outcome.the-variants.{Accepted, Refused}
+use Rattle.refusals.proofs.Numbered.{numbered}
 use Rattle.text.specs.Text.{ascii, decimal, hex}
 use Rattle.text.specs.Putting.{Put, putting, put}
 use Rattle.text.proofs.Digits.{decimal-length, hex-length}
@@ -71,23 +70,4 @@ put-whole text buffer r left fits is = (is, λ room. omega (arith, ap (λ (p : P
 -- A refusal's number is small.
 pub small : (o : Outcome) → outcome o < 2 ^ 32
 small Accepted = omega arith
-small (Refused e) = number-small e
-  where
-    number-small : (e : Refusal) → number e < 2 ^ 32
-    number-small Malformed = omega arith
-    number-small NoRegister = omega arith
-    number-small AccessKind = omega arith
-    number-small ReservedBit = omega arith
-    number-small Unsupported = omega arith
-    number-small Enabled = omega arith
-    number-small SampleBits = omega arith
-    number-small SampleTotal = omega arith
-    number-small StartBeyond = omega arith
-    number-small Mark = omega arith
-    number-small Version = omega arith
-    number-small SampleCount = omega arith
-    number-small Length = omega arith
-    number-small WriteCount = omega arith
-    number-small Room = omega arith
-    number-small BufferMode = omega arith
-    number-small Depth = omega arith
+small (Refused e) = omega (arith, numbered e)

@@ -2,11 +2,11 @@
 use mathlib.Core.List.{List, [], _∷_, _++_, flatten}
 use mathlib.Core.Path.{_≡_, refl}
 use Prim.Native.Nat.{ℕ}
-use Rattle.output.specs.Output.{word-at}
+use Rattle.numbers.specs.Numbers.{number, number-at}
 use Rattle.rules.proofs.EveryRule.{every-rule}
 use Rattle.trace_format.specs.Format.{version-for, count-size}
-use Rattle.trace_format.specs.Reading.{number, field, same, form-of, write-at, sample-at, writes-from, samples-from}
-use Rattle.file_rules.specs.File.{set-up, samples-refusal, run-samples, run-content, run-on}
+use Rattle.trace_format.specs.Reading.{same, form-of, write-at, sample-at, writes-from, samples-from}
+use Rattle.file_rules.specs.File.{set-up, run-on}
 use Rattle.text.specs.Text.{ascii, decimal-within, decimal, hex}
 use Rattle.printing.specs.Printed.{count-line, flags-line, word-line, word-lines, report, lines, printed, printed-file}
 
@@ -25,5 +25,5 @@ pub printer-sheet :
     × (printed-file (paper 0x48 0x00 0x01) ≡ ascii "samples 8\nwords 0\nheld 1\ndiscarded 0\nflags 19\n")
     × (printed-file (paper 0x48 0x02 0x04) ≡ ascii "refused 7\n")
     × (printed-file [] ≡ ascii "refused 13\n")
-unfolding every-rule word-at version-for count-size number field same form-of write-at sample-at writes-from samples-from set-up samples-refusal run-samples run-content run-on decimal-within decimal hex count-line flags-line word-line word-lines report lines printed printed-file flatten
+unfolding every-rule version-for count-size number number-at same form-of write-at sample-at writes-from samples-from set-up run-on decimal-within decimal hex count-line flags-line word-line word-lines report lines printed printed-file flatten
 printer-sheet = (refl, refl, refl, refl, refl, refl)

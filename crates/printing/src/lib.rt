@@ -7,7 +7,7 @@ ghost use lib.ListN.{length, getD};
 ghost use Rattle.refusals.specs.Table.{outcome as number};
 ghost use Rattle.text.specs.Putting as putting-rules;
 ghost use Rattle.printing.specs.Printed as printed-rules;
-use output::word_at;
+use numbers::four;
 use refusals::Outcome;
 use rules::Device;
 use text::eight_digits;
@@ -64,7 +64,7 @@ fn report_line(d: Device, memory: &[u8], k: usize, buffer: &mut [u8]) -> usize
     }
     let landed = d.core.output.counts.landed as usize;
     if k - 5 < landed {
-        return word_line(word_at(memory, 4 * (k - 5)), buffer);
+        return word_line(four(memory, 4 * (k - 5)), buffer);
     }
     0
 }

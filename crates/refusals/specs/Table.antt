@@ -1,7 +1,7 @@
 -- The refusal numbers (document 01, "Refusal numbers"), each given exactly when its row says.
 use Prim.Native.Nat.{ℕ}
 use Rattle.refusals.specs.declared.Refusal.{Refusal}
-use Rattle.refusals.specs.declared.Refusal.the-variants.{Malformed, NoRegister, AccessKind, ReservedBit, Unsupported, Enabled, SampleBits, SampleTotal, StartBeyond, Mark, Version, SampleCount, Length, WriteCount, Room, BufferMode, Depth}
+use Rattle.refusals.specs.declared.Refusal.the-variants.{Malformed, NoRegister, AccessKind, ReservedBit, Unsupported, Enabled, SampleBits, SampleTotal, StartBeyond, Mark, Version, SampleCount, Length, WriteCount, Room, BufferMode, NoSample, Depth, PictureSize, PictureContent, SheetLimit}
 use Rattle.refusals.specs.declared.Outcome.{Outcome}
 use Rattle.refusals.specs.declared.Outcome.the-variants.{Accepted, Refused}
 
@@ -38,8 +38,16 @@ number WriteCount = 14
 number Room = 15
 -- W2: memories not matching the mode
 number BufferMode = 16
+-- W3: a sample number 0 or beyond the file (no call gives it yet)
+number NoSample = 17
 -- W9: depth 0 or above 32 where a device is made
 number Depth = 18
+-- W11, W13: EDM above 3; W11: a side 0 or above 2048, or pixels that do not exactly fill the words given, or whole words on reading (no call gives it yet)
+number PictureSize = 19
+-- W11: header or length not ours; W11, W13: a pixel above its maximum (no call gives it yet)
+number PictureContent = 20
+-- W13: more than 65,536 frames in a sheet, or more than 4,194,304 pixels in a frame (no call gives it yet)
+number SheetLimit = 21
 
 -- 0 of an accepted call, else the refusal's number.
 abbrev pub outcome : Outcome → ℕ

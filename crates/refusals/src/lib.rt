@@ -21,7 +21,11 @@ pub enum Refusal {
     WriteCount,
     Room,
     BufferMode,
+    NoSample,
     Depth,
+    PictureSize,
+    PictureContent,
+    SheetLimit,
 }
 
 impl Refusal {
@@ -46,7 +50,11 @@ impl Refusal {
             Refusal::WriteCount => 14,
             Refusal::Room => 15,
             Refusal::BufferMode => 16,
+            Refusal::NoSample => 17,
             Refusal::Depth => 18,
+            Refusal::PictureSize => 19,
+            Refusal::PictureContent => 20,
+            Refusal::SheetLimit => 21,
         }
     }
 }

@@ -1,10 +1,10 @@
 -- The register map: which registers there are, where, how they may be accessed, and which of their bits are reserved
 -- (document 01, "Registers"; 004, 32.5 and table 271).
-use mathlib.Core.Bool.{Bool, true, false, cond, not, _||_}
+use mathlib.Core.Bool.{Bool, true, false, cond}
 use mathlib.Core.List.{List, [], _∷_}
-use Prim.Native.Nat.{ℕ, _+_, _*_, _-_, _^_}
+use Prim.Native.Nat.{ℕ}
 use lib.Dec.{eqb}
-use Rattle.bits.specs.Bits.{field}
+use Rattle.bits.specs.Ranges.{Range, any-set}
 use Rattle.registers.specs.declared.Register.{Register}
 use Rattle.registers.specs.declared.Register.the-variants.{Control, Status, RawStatus, InterruptEnable, MaskedStatus, InterruptClear, EmbeddedCode, EmbeddedUnmask, WindowStart, WindowSize}
 use Rattle.registers.specs.declared.Access.{Access}
@@ -77,11 +77,6 @@ is-fixed EmbeddedUnmask = true
 is-fixed WindowStart = true
 is-fixed WindowSize = true
 
--- Bits high:low of a register.
-pub record Range : Type 0 where
-  pub high : ℕ
-  pub low : ℕ
-
 -- The reserved bits of each register: all that the paper gives no name. 004 gives names to CR 20:16 (OELS, LSM, OEBS, BSM).
 abbrev pub reserved : Register → List Range
 reserved Control = record { high = 31; low = 15 } ∷ record { high = 13; low = 12 } ∷ []
@@ -94,16 +89,6 @@ reserved EmbeddedCode = []
 reserved EmbeddedUnmask = []
 reserved WindowStart = record { high = 31; low = 29 } ∷ record { high = 15; low = 14 } ∷ []
 reserved WindowSize = record { high = 31; low = 30 } ∷ record { high = 15; low = 14 } ∷ []
-
--- A bit of one of the ranges is 1 in x.
-abbrev pub any-set : List Range → ℕ → Bool
-any-set [] x = false
-any-set (r ∷ rs) x = any-set rs x || not (eqb (field (r .high) (r .low) x) 0)
-
--- The ranges as a mask.
-abbrev pub mask : List Range → ℕ
-mask [] = 0
-mask (r ∷ rs) = (2 ^ (r .high + 1 - r .low) - 1) * 2 ^ r .low + mask rs
 
 -- A reserved bit of x is 1, if x is written to the register: refusal 4.
 abbrev pub reserved-set : Register → ℕ → Bool

@@ -3,7 +3,6 @@
 --   mistakes    those of "Mistakes that look right" that the starred lines don't catch
 -- and what these leave open, since a definition changed together with its code would pass every other proof; each row says which sentence it is for:
 --   by-rule     cases of the same form, in the order of the rules
---   by-register the register map
 --   by-call     calls in a row, with what each tells: registers, refusals, writing CR, single samples, memory
 --   judged      devices at the bounds of "Malformed means one of"
 -- and what only the state shows.
@@ -14,18 +13,13 @@ use mathlib.Core.Path.{_≡_, refl}
 use Prim.Native.Nat.{ℕ, zero, suc, _+_, _-_}
 use lib.Dec.{eqb}
 use lib.ListN.{length, drop, replicate}
-use Rattle.registers.specs.Map.{offset, every, access, is-control, is-fixed, reserved, mask}
-use Rattle.registers.specs.Control.{fcrc, edm}
-use Rattle.registers.specs.Window.{vst, hoffcnt, vline, capcnt}
-use Rattle.registers.specs.Codes.{fsc, lsc, lec, fec, fsu, lsu, leu, feu}
-use Rattle.registers.specs.declared.Register.{Register}
+use Rattle.registers.specs.Map.{offset}
 use Rattle.registers.specs.declared.Register.the-variants.{Control, Status, RawStatus, InterruptEnable, InterruptClear, WindowStart, WindowSize}
-use Rattle.registers.specs.declared.Access.{Access}
-use Rattle.registers.specs.declared.Access.the-variants.{ReadWrite, ReadOnly, WriteOnly}
 use Rattle.samples.specs.Samples.{pixel-data}
 use Rattle.refusals.specs.Refusals as refusals
 use Rattle.output.specs.declared.Output.{Output}
-use Rattle.output.specs.Output.{slot-count, usual-depth, OutputState, word-at}
+use Rattle.numbers.specs.Numbers.{number, number-at}
+use Rattle.output.specs.Output.{slot-count, usual-depth, OutputState, word-at, Packed, nothing, completed, lost}
 use Rattle.rules.specs.declared.Syncs.{Syncs}
 use Rattle.rules.specs.declared.Frame.{Frame}
 use Rattle.rules.specs.declared.Frame.the-variants.{Closed, Open}
@@ -33,10 +27,11 @@ use Rattle.rules.specs.declared.Registers.{Registers}
 use Rattle.rules.specs.declared.Capture.{Capture}
 use Rattle.rules.specs.declared.Device.{Device}
 use Rattle.rules.specs.State.{device, capture-of, output-of, fresh-capture, fresh, with-cr, with-ris, with-ier, with-cwstrt, with-cwsize, with-registers, with-syncs, with-frame, with-rate, with-partial}
+use Rattle.rules.specs.Capture.{pixel-edge}
 use Rattle.rules.specs.Answers.{Changed}
 use Rattle.rules.specs.WellFormed.{malformed}
 use Rattle.rules.specs.RegisterCalls.{status, read, write, interrupt, rearm}
-use Rattle.rules.specs.Run.{Packed, nothing, completed, lost, RunResult, run, SampleResult, sample}
+use Rattle.rules.specs.Run.{RunResult, run, SampleResult, sample}
 use Rattle.rules.proofs.EveryRule.{every-rule}
 
 -- A register write: offset and value.
@@ -303,40 +298,6 @@ by-rule =
     (CR ≔ 0x48E2 ∷ CR ≔ 0x08E2 ∷ CWSTRT ≔ 0x10002 ∷ CR ≔ 0x4021 ∷ [])
     (leaves (0 ∷ 0 ∷ 0 ∷ 0 ∷ 0 ∷ 0 ∷ []) [] 0 4 0x4021 0x18 3) ∷
     []
-
--- By register. What the map has of one: offset, access kind, reserved bits as a mask, whether it is CR, and whether it is fixed while ENABLE is 1.
-pub record Mapped : Type 0 where
-  pub offset : ℕ
-  pub access : Access
-  pub reserved : ℕ
-  pub control : Bool
-  pub fixed : Bool
-
-abbrev pub mapped : ℕ → Access → ℕ → Bool → Bool → Mapped
-mapped o a m c w = record { offset = o; access = a; reserved = m; control = c; fixed = w }
-
-abbrev pub map-of : Register → Mapped
-map-of r = mapped (offset r) (access r) (mask (reserved r)) (is-control r) (is-fixed r)
-
--- "Registers", in the paper's order: CR, SR, RIS, IER, MIS, ICR, ESCR and ESUR (W6), CWSTRT, CWSIZE.
-abbrev pub by-register : List Mapped
-by-register =
-    mapped 0x00 ReadWrite 0xFFFFB000 true false ∷
-    mapped 0x04 ReadOnly 0xFFFFFFF8 false false ∷
-    mapped 0x08 ReadOnly 0xFFFFFFE0 false false ∷
-    mapped 0x0C ReadWrite 0xFFFFFFE0 false false ∷
-    mapped 0x10 ReadOnly 0xFFFFFFE0 false false ∷
-    mapped 0x14 WriteOnly 0xFFFFFFE0 false false ∷
-    mapped 0x18 ReadWrite 0 false true ∷
-    mapped 0x1C ReadWrite 0 false true ∷
-    mapped 0x20 ReadWrite 0xE000C000 false true ∷
-    mapped 0x24 ReadWrite 0xC000C000 false true ∷
-    []
-
--- The fields of CR, CWSTRT, CWSIZE, ESCR and ESUR, and the data of a sample.
-abbrev pub fields : ℕ → List ℕ
-fields x =
-    fcrc x ∷ edm x ∷ vst x ∷ hoffcnt x ∷ vline x ∷ capcnt x ∷ fsc x ∷ lsc x ∷ lec x ∷ fec x ∷ fsu x ∷ lsu x ∷ leu x ∷ feu x ∷ pixel-data x ∷ []
 
 -- By call. A call on a device and the memory lent to it, or a look at the counts or at the memory.
 pub data Call : Type 0 where
@@ -864,6 +825,10 @@ syncs-while-disabled =
 unfoldable pub same-line : Frame
 same-line = run (capturing 0x48E1 (λ s. partial-is 0 0 (frame-is true 1 0 s))) [] 0 (edge 4) .device .core .capture .frame
 
+-- Rule 6 alone: an edge carries a pixel where neither sync blanks; here in line 1 after pixel 3, by whether HSYNC and VSYNC blank. By rule 4 no frame is open where VSYNC does.
+unfoldable pub frame-after : Bool → Bool → Frame
+frame-after hsync vsync = pixel-edge (capture-of (capturing 0x48E1 (λ s. s))) (record { hsync = hsync; vsync = vsync }) 4 .state .frame
+
 -- Rule 6: kept are lines and pixels of an untaken frame too.
 unfoldable pub untaken-frame : Frame
 untaken-frame = run (write fresh CR 0x49E1 .device) [] 0 (edges (blank ∷ 1 ∷ blank ∷ 2 ∷ 3 ∷ [])) .device .core .capture .frame
@@ -876,25 +841,23 @@ frame-started = run (write fresh CR 0x48E3 .device) [] 0 (edges (blank ∷ line-
 unfoldable pub syncs-at-reset : Syncs
 syncs-at-reset = fresh .core .capture .syncs
 
--- The statement: every case leaves what its row says, every register is mapped so, every call tells what stands beside it, every device is judged so, and the state is as said.
+-- The statement: every case leaves what its row says, every call tells what stands beside it, every device is judged so, and the state is as said.
 abbrev pub cases : List Case
 cases = starred ++ mistakes ++ by-rule
 
 pub bench-sheet : (map made cases ≡ map (λ c. c .sheet) cases)
-    × (map map-of every ≡ by-register)
-    × (map fields (0xFFFFFFFF ∷ 0xD4C3B2A1 ∷ []) ≡
-    (3 ∷ 3 ∷ 0x1FFF ∷ 0x3FFF ∷ 0x3FFF ∷ 0x3FFF ∷ 0xFF ∷ 0xFF ∷ 0xFF ∷ 0xFF ∷ 0xFF ∷ 0xFF ∷ 0xFF ∷ 0xFF ∷ 0x3FFF ∷ []) ∷
-    (2 ∷ 0 ∷ 0x14C3 ∷ 0x32A1 ∷ 0x14C3 ∷ 0x32A1 ∷ 0xA1 ∷ 0xB2 ∷ 0xC3 ∷ 0xD4 ∷ 0xA1 ∷ 0xB2 ∷ 0xC3 ∷ 0xD4 ∷ 0x32A1 ∷ []) ∷
-    [])
+    × (map pixel-data (0xFFFFFFFF ∷ 0xD4C3B2A1 ∷ []) ≡ 0x3FFF ∷ 0x32A1 ∷ [])
     × (map played by-call ≡ map (λ l. map (λ e. e .said) (l .entries)) by-call)
     × (map (λ j. malformed (j .device)) judged ≡ map (λ j. j .malformed) judged)
-    × (map (word-at (1 ∷ 2 ∷ 3 ∷ 4 ∷ 5 ∷ 6 ∷ 7 ∷ [])) (2 ∷ 5 ∷ 7 ∷ []) ≡ 0x06050403 ∷ 0x0706 ∷ 0 ∷ [])
     × (snapshot-rate ≡ 0)
     × (kept-rate ≡ 1)
     × (syncs-while-disabled ≡ record { hsync = true; vsync = true })
     × (same-line ≡ Open true (record { lines = 1; pixels = 1 }))
+    × (frame-after false false ≡ Open true (record { lines = 1; pixels = 4 }))
+    × (frame-after true false ≡ Open true (record { lines = 1; pixels = 3 }))
+    × (frame-after false true ≡ Open true (record { lines = 1; pixels = 3 }))
     × (untaken-frame ≡ Open false (record { lines = 1; pixels = 2 }))
     × (frame-started ≡ Open true (record { lines = 0; pixels = 0 }))
     × (syncs-at-reset ≡ record { hsync = false; vsync = false })
-unfolding word-at written words made told told-by played starred mistakes by-rule by-call judged snapshot-rate kept-rate syncs-while-disabled same-line untaken-frame frame-started syncs-at-reset every-rule
-bench-sheet = (refl, refl, refl, refl, refl, refl, refl, refl, refl, refl, refl, refl, refl)
+unfolding number number-at written words made told told-by played starred mistakes by-rule by-call judged snapshot-rate kept-rate syncs-while-disabled same-line frame-after untaken-frame frame-started syncs-at-reset every-rule
+bench-sheet = (refl, refl, refl, refl, refl, refl, refl, refl, refl, refl, refl, refl, refl, refl)

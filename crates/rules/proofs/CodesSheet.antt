@@ -26,7 +26,8 @@ use Rattle.rules.specs.declared.Device.{Device}
 use Rattle.rules.specs.State.{device, capture-of, fresh-of, fresh, with-cr, with-escr, with-esur, with-syncs, with-rate, with-waiting}
 use Rattle.rules.specs.RegisterCalls.{write}
 use Rattle.rules.specs.WellFormed.{malformed}
-use Rattle.rules.specs.Run.{Packed, nothing, completed, lost, run}
+use Rattle.output.specs.Output.{Packed, nothing, completed, lost}
+use Rattle.rules.specs.Run.{run}
 use Rattle.rules.proofs.EveryRule.{every-rule}
 use Rattle.rules.proofs.BenchSheet.{_≔_, CR, SR, RIS, IER, ICR, CWSTRT, CWSIZE, edge, edges, blank, Entry, _▸_, a-write, a-read, a-run, a-sample, a-rearming, the-line, the-counts, the-memory, done, refused, reads, line, sampled, counts, holds, all-refused, Judged, well, ill, Log, log, told, told-by, played, words-are, no-slots, partial-is, frame-is, registered}
 use Rattle.rules.proofs.RequestSheet.{all-accepted, lands-at}

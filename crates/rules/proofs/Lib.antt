@@ -1,5 +1,4 @@
 pub mod EveryRule
-pub mod Booleans
 pub mod WellFormed
 pub mod BenchSheet
 pub mod CropWindow

@@ -10,7 +10,7 @@ use mathlib.Core.Option.{none, some}
 use mathlib.Core.Path.{_≡_, refl}
 use Prim.Native.Nat.{ℕ, zero, suc, _+_, _-_}
 use lib.ListN.{length, replicate}
-use Rattle.output.specs.Output.{slot-count}
+use Rattle.output.specs.Output.{slot-count, Packed, nothing, completed, lost}
 use Rattle.codes.specs.declared.Waiting.the-variants.{Zero}
 use Rattle.rules.specs.declared.Frame.{Frame}
 use Rattle.rules.specs.declared.Frame.the-variants.{Closed, Open}
@@ -19,7 +19,7 @@ use Rattle.rules.specs.declared.Device.{Device}
 use Rattle.rules.specs.State.{device, capture-of, fresh-of, fresh, with-cr}
 use Rattle.rules.specs.RegisterCalls.{write, made}
 use Rattle.rules.specs.WellFormed.{malformed}
-use Rattle.rules.specs.Run.{Packed, nothing, completed, lost, run}
+use Rattle.rules.specs.Run.{run}
 use Rattle.rules.proofs.EveryRule.{every-rule}
 use Rattle.rules.proofs.BenchSheet.{_≔_, CR, SR, RIS, ICR, CWSTRT, CWSIZE, edge, granted, edges, blank, line-gap, frame-gap, Entry, _▸_, a-write, a-read, a-run, a-sample, the-counts, the-memory, done, refused, reads, sampled, counts, holds, all-refused, Judged, well, ill, Log, log, told, told-by, played, partial-is, frame-is, registered, capturing}
 

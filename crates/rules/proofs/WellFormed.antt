@@ -16,9 +16,9 @@ use Rattle.output.specs.WellFormed.{all-zero, bad-fifo, bad-place, bad-counts}
 use Rattle.output.proofs.WellFormed.{OutputOk}
 use Rattle.rules.specs.State.{output-of, is-open, is-taken}
 use Rattle.rules.specs.Capture.{rate-period}
-use Rattle.rules.specs.WellFormed.{lines, pixels, unused-bits, full-partial, excluded, bad-flags, active-disabled, partial-outside, bad-rate, above-samples, malformed, one-holds, clauses}
-use Rattle.bits.proofs.Booleans.{or-false}
-use Rattle.rules.proofs.Booleans.{both-false, and-false, imp-and-false, not-is-false, not-is-true, None, none, none-any}
+use Rattle.bits.specs.Tests.{one-holds}
+use Rattle.rules.specs.WellFormed.{lines, pixels, unused-bits, full-partial, excluded, bad-flags, active-disabled, partial-outside, bad-rate, above-samples, malformed, clauses}
+use Rattle.bits.proofs.Booleans.{or-false, both-false, and-false, imp-and-false, not-is-false, not-is-true, None, none, none-any}
 
 -- The capture state's share, with lines and pixels at most n.
 pub record CaptureOk (n : ℕ) (s : Capture) : Type 0 where

@@ -113,6 +113,10 @@ frame-closes s now = cond (now .vsync) (end-of (s .frame) s) s
 unfoldable pub frame-pads : Capture → Syncs → Option ℕ
 frame-pads s now = cond (now .vsync) (padded (s .frame) s) none
 
+-- Rules 2 and 4, W4 (004, 32.3.9): the word that a sample by the sync pins pads.
+unfoldable pub padded-at : Capture → ℕ → Option ℕ
+padded-at s w = cond (working-edge s w && enabled s) (frame-pads s (blanking s w)) none
+
 -- Rule 4: the frame's end, the word that it pads, and whether FRAME is due. FRAME itself rises behind rule 9 (W4, `flagged`).
 unfoldable pub frame-end : Capture → Syncs → Captured
 frame-end s now = record { state = frame-closes s now; word = frame-pads s now; due = frame-due (s .frame) s now; error = false }

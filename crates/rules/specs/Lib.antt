@@ -3,6 +3,7 @@ pub mod CropWindow
 pub mod Capture
 pub mod Codes
 pub mod Sample
+pub mod Unpadded
 pub mod Answers
 pub mod WellFormed
 pub mod RegisterCalls

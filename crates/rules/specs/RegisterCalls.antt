@@ -5,6 +5,7 @@ use Prim.Native.Nat.{ℕ, _+_, _-_}
 use lib.Bits.{bitAnd}
 use lib.Dec.{eqb, ltb}
 use Rattle.bits.specs.Bits.{field}
+use Rattle.bits.specs.Tests.{number-if}
 use Rattle.registers.specs.Control.{capture, embedded, hspol, vspol, enable, unsupported}
 use Rattle.registers.specs.Map.{register-at, access, is-control, is-fixed, reserved-set}
 use Rattle.registers.specs.declared.Register.{Register}
@@ -27,10 +28,6 @@ use Rattle.rules.specs.Codes.{coded-syncs}
 use Rattle.refusals.specs.Refusals.{Test, _⇒_, first, Answer, answer}
 use Rattle.rules.specs.Answers.{Changed, change}
 use Rattle.rules.specs.WellFormed.{malformed}
-
--- The number n where a test holds, else 0.
-abbrev pub number-if : Bool → ℕ → ℕ
-number-if t n = cond t n 0
 
 -- Whether each sync blanks, for SR: by the pins of the last sample; with ESS 1 HSYNC outside a line and VSYNC outside a frame (W6).
 unfoldable pub pin-syncs : Capture → Syncs

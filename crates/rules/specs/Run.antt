@@ -2,27 +2,22 @@
 use mathlib.Core.Bool.{cond}
 use mathlib.Core.List.{List, [], _∷_, _++_}
 use mathlib.Core.Option.{Option, none, some}
-use Prim.Native.Nat.{ℕ, _+_}
+use Prim.Native.Nat.{ℕ}
 use lib.Dec.{eqb, ltb}
 use lib.ListN.{length, take, drop}
 use Rattle.registers.specs.Control.{snapshot}
-use Rattle.refusals.specs.Refusals.{_⇒_, first, Answer, answer}
-use Rattle.samples.specs.Samples.{bus-grant, any-bad}
+use Rattle.refusals.specs.Refusals.{Answer, answer}
+use Rattle.samples.specs.Samples.{bus-grant}
+use Rattle.run_refusals.specs.RunRefusals.{refusal-of}
 use Rattle.output.specs.declared.Fate.{Fate}
 use Rattle.output.specs.declared.Fate.the-variants.{Held, Lost}
-use Rattle.output.specs.Output.{OutputState, count-sample, grant, offer, discard}
+use Rattle.output.specs.Output.{OutputState, counted, grant, offer, discard, Packed, nothing, completed, lost, in-memory, SampleAnswer}
 use Rattle.rules.specs.declared.Capture.{Capture}
 use Rattle.rules.specs.declared.Device.{Device}
 use Rattle.rules.specs.State.{device, capture-of, output-of, raise, clear-capture, close-frame}
 use Rattle.rules.specs.Capture.{Captured, enabled, flagged}
 use Rattle.rules.specs.Sample.{capture-sample}
 use Rattle.rules.specs.WellFormed.{malformed}
-
--- Whether a sample completed no word, completed one, with its value, or lost one.
-pub data Packed : Type 0 where
-  nothing : Packed
-  completed : ℕ → Packed
-  lost : Packed
 
 -- What rule 9 makes of a sample.
 pub record Completed : Type 0 where
@@ -56,10 +51,6 @@ pub record Stepped : Type 0 where
   pub landing : Option ℕ
   pub packed : Packed
 
--- One more sample.
-unfoldable pub counted : OutputState → OutputState
-counted x = record { output = count-sample (x .output); slots = x .slots }
-
 -- The nine rules in order: the grant (1), capture (2 to 8), the full word (9).
 unfoldable pub step : Device → List ℕ → ℕ → Stepped
 step d buffer w =
@@ -79,13 +70,7 @@ steps d buffer (w ∷ ws) = steps (step d buffer w .device) (step d buffer w .bu
 
 -- A run of some samples, or one sample: refusals 1, 9, 7, 8.
 unfoldable pub run-refusal : Device → List ℕ → ℕ → List ℕ → ℕ
-run-refusal d memory start samples =
-    first
-    (malformed d ⇒ 1 ∷
-    ltb (length memory) start ⇒ 9 ∷
-    any-bad samples ⇒ 7 ∷
-    ltb 4294967295 (d .core .output .counts .samples + length samples) ⇒ 8 ∷
-    [])
+run-refusal d memory start samples = refusal-of (malformed d) (ltb (length memory) start) (d .core .output .counts .samples) samples
 
 -- The refusal number, 0 where the run is accepted, and device and memory after it.
 pub record RunResult : Type 0 where
@@ -104,19 +89,11 @@ run d memory start samples =
       memory = cond (eqb number 0) (take start memory ++ r .buffer) memory;
     }
 
--- The two answers of one sample, the landing as a byte of the lent memory.
-pub record SampleAnswer : Type 0 where
-  pub landing : Option ℕ
-  pub packed : Packed
-
+-- The two answers of one sample, and device and memory after it.
 pub record SampleResult : Type 0 where
   pub answer : Answer SampleAnswer
   pub device : Device
   pub memory : List ℕ
-
-unfoldable pub in-memory : ℕ → Option ℕ → Option ℕ
-in-memory start none = none
-in-memory start (some byte) = some (start + byte)
 
 unfoldable pub sample : Device → List ℕ → ℕ → ℕ → SampleResult
 sample d memory start w =

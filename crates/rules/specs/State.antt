@@ -1,7 +1,7 @@
 -- Reset (document 01, "Registers"), and a state with one of its parts changed.
-use mathlib.Core.Bool.{Bool, true, false, cond}
-use Prim.Native.Nat.{ℕ, _+_, _-_, _^_}
-use Rattle.bits.specs.Bits.{bit}
+use mathlib.Core.Bool.{Bool, true, false}
+use Prim.Native.Nat.{ℕ}
+use Rattle.bits.specs.Bits.{raised, lowered}
 use Rattle.output.specs.Output.{usual-depth, OutputState, fresh-output}
 use Rattle.codes.specs.declared.Waiting.{Waiting}
 use Rattle.codes.specs.declared.Waiting.the-variants.{Zero}
@@ -59,13 +59,6 @@ is-open (Open taken f) = true
 abbrev pub is-taken : Frame → Bool
 is-taken Closed = false
 is-taken (Open taken f) = taken
-
--- Bit k of x made 1; made 0.
-unfoldable pub raised : ℕ → ℕ → ℕ
-raised k x = cond (bit k x) x (x + 2 ^ k)
-
-unfoldable pub lowered : ℕ → ℕ → ℕ
-lowered k x = cond (bit k x) (x - 2 ^ k) x
 
 -- The registers with one of them changed.
 unfoldable pub with-cr : ℕ → Registers → Registers

@@ -1,9 +1,10 @@
 -- Malformed devices (document 01, "Malformed means one of"), clause by clause in the paper's order; those of FIFO, place and counts alone are in the
 -- crate `output`. The list is closed.
-use mathlib.Core.Bool.{Bool, false, not, _&&_, _||_}
+use mathlib.Core.Bool.{Bool, not, _&&_, _||_}
 use mathlib.Core.List.{List, [], _∷_}
 use Prim.Native.Nat.{ℕ, _*_, _/_, _^_}
 use lib.Dec.{eqb, ltb, leb}
+use Rattle.bits.specs.Tests.{one-holds}
 use Rattle.registers.specs.Control.{unsupported, edm, enable}
 use Rattle.registers.specs.Map.{reserved-set}
 use Rattle.registers.specs.declared.Register.the-variants.{Control, InterruptEnable, WindowStart, WindowSize}
@@ -16,11 +17,6 @@ use Rattle.rules.specs.declared.Capture.{Capture}
 use Rattle.rules.specs.declared.Device.{Device}
 use Rattle.rules.specs.State.{output-of, is-open, is-taken}
 use Rattle.rules.specs.Capture.{rate-period}
-
--- One of the tests holds.
-abbrev pub one-holds : List Bool → Bool
-one-holds [] = false
-one-holds (t ∷ ts) = t || one-holds ts
 
 -- Of a frame: its lines begun and the pixels of the last; 0 of a closed one.
 abbrev pub lines : Frame → ℕ

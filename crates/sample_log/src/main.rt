@@ -9,9 +9,9 @@ ghost use Rattle.sample_log.specs.Samples.{trace-t, samples, left, sampl
 use board_rules::Board;
 use device::Reading;
 use device::Reply;
-use full_word::Packing;
 use libc::STDOUT_FILENO;
 use output::Landing;
+use output::Packing;
 use output::SLOTS;
 use refusals::Outcome;
 use registers::Register;

@@ -1,7 +1,7 @@
--- A sample of the pins (document 01, "One sample"): its fields; and refusal 7, which runs, files and the writer share.
-use mathlib.Core.Bool.{Bool, false, _||_}
+-- A sample of the pins (document 01, "One sample"): its fields; refusal 7, which runs, files and the writer share; and samples at which VSYNC keeps its level.
+use mathlib.Core.Bool.{Bool, false, cond, _||_, Bool·beq}
 use mathlib.Core.List.{List, [], _∷_}
-use Prim.Native.Nat.{ℕ, _^_}
+use Prim.Native.Nat.{ℕ, suc, _^_}
 use lib.Dec.{leb}
 use Rattle.bits.specs.Bits.{bit, field}
 
@@ -28,3 +28,8 @@ bad-sample w = leb (2 ^ 18) w
 unfoldable pub any-bad : List ℕ → Bool
 any-bad [] = false
 any-bad (w ∷ ws) = bad-sample w || any-bad ws
+
+-- How many of some samples come before the first at which VSYNC has another level.
+unfoldable pub level-run : Bool → List ℕ → ℕ
+level-run level [] = 0
+level-run level (w ∷ ws) = cond (Bool·beq (vsync-pin w) level) (suc (level-run level ws)) 0

@@ -1,5 +1,8 @@
-// A sample of the pins: the fields of its 32-bit word, and refusal 7, a bit above them. Each function answers for every number.
+// A sample of the pins: the fields of its 32-bit word; refusal 7, a bit above them; and samples at which VSYNC keeps its level. Each function answers for every number.
+ghost use mathlib.Core.Bool.{Bool·beq};
 ghost use mathlib.Core.Path.{_≡_};
+ghost use Prim.Native.Nat.{_+_};
+ghost use lib.ListN.{drop};
 ghost use Rattle.samples.specs.Samples as samples;
 
 // The data, bits 13:0.
@@ -57,4 +60,25 @@ pub fn any_bad(list: &[u32]) -> bool
         i += 1;
     }
     any
+}
+
+fn has_level(pin: bool, level: bool) -> bool
+    ensures { λ r. ⌜ r ≡ Bool·beq pin level ⌝ }
+{
+    pin == level
+}
+
+// The first sample from `first` on at which VSYNC has another level, or the end.
+pub fn level_end(list: &[u32], first: usize, level: bool) -> usize
+    ensures { λ r. ⌜ r ≡ first + samples.level-run level (drop first (now (list .entry))) ⌝ }
+{
+    let mut i = first;
+    while i < list.len() {
+        if has_level(vsync_pin(list[i]), level) {
+            i += 1;
+        } else {
+            return i;
+        }
+    }
+    i
 }

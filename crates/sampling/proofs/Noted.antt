@@ -1,14 +1,14 @@
--- What is noted along some samples changes neither device nor buffer; and of one sample, from places of zeros, it is the sample's two answers.
--- The idea: by the cases of each answer. Assumes nothing.
+-- What is noted along some samples changes neither device nor buffer; and of one sample, from places of zeros, it is the sample's two answers. Assumes nothing.
 use mathlib.Core.List.{List, [], _∷_, _++_}
-use mathlib.Core.Option.{Option, none, some}
 use mathlib.Core.Path.{_≡_, refl}
 use Prim.Native.Nat.{ℕ}
 use lib.ListN.{take, drop}
 use Rattle.refusals.specs.Refusals.{answered}
 use Rattle.rules.specs.declared.Device.{Device}
-use Rattle.rules.specs.Run.{Packed, nothing, completed, lost, Stepped, step, Ran, steps, run-refusal, in-memory, SampleResult, sample}
-use Rattle.full_word.specs.Notes.{note-landing, note-packing, noted-landing, noted-packing}
+use Rattle.output.specs.Output.{in-memory}
+use Rattle.rules.specs.Run.{Stepped, step, Ran, steps, run-refusal, SampleResult, sample}
+use Rattle.fifo.specs.Notes.{noted-landing, noted-packing}
+use Rattle.fifo.proofs.SaidBack.{landing-back, packing-back}
 use Rattle.sampling.specs.Notes.{Noted, noted-step, noted-steps}
 
 pub same-run : (n : Noted) (ws : List ℕ)
@@ -16,17 +16,6 @@ pub same-run : (n : Noted) (ws : List ℕ)
 unfolding noted-steps noted-step steps
 same-run n [] = refl
 same-run n (w ∷ ws) = same-run (noted-step n w) ws
-
-landing-back : (l : Option ℕ) → noted-landing (note-landing l (0 ∷ 0 ∷ [])) ≡ l
-unfolding noted-landing note-landing
-landing-back none = refl
-landing-back (some byte) = refl
-
-packing-back : (p : Packed) → noted-packing (note-packing p (0 ∷ 0 ∷ [])) ≡ p
-unfolding noted-packing note-packing
-packing-back nothing = refl
-packing-back (completed v) = refl
-packing-back lost = refl
 
 pub one-sample : (d : Device) (b : List ℕ) (w : ℕ) {n : Noted}
     → n ≡ noted-steps (record { device = d; buffer = b; landings = 0 ∷ 0 ∷ []; words = 0 ∷ 0 ∷ [] }) (w ∷ [])

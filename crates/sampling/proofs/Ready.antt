@@ -8,28 +8,27 @@ use Rattle.samples.specs.Samples.{bus-grant}
 use lib.ListN.{length}
 use mathlib.Core.Bool.{true, false}
 use mathlib.Core.Option.{some}
-use Rattle.output.specs.Output.{slot-count, with-counts, count-sample, Granted, grant}
+use Rattle.output.specs.Output.{slot-count, with-counts, count-sample, Granted, grant, counted, completed}
 use Rattle.output.specs.WellFormed.{Laid}
 use Rattle.output.proofs.Contents.{not-malformed-laid}
 use Rattle.output.proofs.Untouched.{grant-untouched}
 use Rattle.rules.specs.WellFormed.{malformed, clauses}
-use Rattle.rules.proofs.Booleans.{none as all-false}
+use Rattle.bits.proofs.Booleans.{none as all-false}
 use Rattle.rules.specs.declared.Capture.{Capture}
 use Rattle.rules.specs.declared.Device.{Device}
 use Rattle.rules.specs.State.{device, capture-of, output-of, with-pins, with-syncs}
-use Rattle.rules.specs.Capture.{enabled, Captured}
+use Rattle.rules.specs.Capture.{enabled, padded-at, Captured}
 use Rattle.rules.specs.Sample.{capture-sample}
-use Rattle.rules.specs.Run.{counted, completed, Completed, complete, after-grant, step}
+use Rattle.rules.specs.Unpadded.{unpadded-sample}
+use Rattle.rules.specs.Run.{Completed, complete, after-grant, step}
 use Rattle.rules.proofs.WellFormed.{CaptureOk, WellFormed, facts}
-use Rattle.full_word.specs.Notes.{note-landing, note-packing}
+use Rattle.fifo.specs.Notes.{note-landing, note-packing}
 use Rattle.sampling.specs.Notes.{Noted, noted-step}
-use Rattle.laws.specs.Padding.{padded-at}
-use Rattle.laws.specs.Before.{frame-end-before-W4, capture-sample-by}
 use Rattle.laws.proofs.RegisterValues.{uncropped}
 use Rattle.laws.proofs.CaptureParts.{pins-syncs-ok}
 use Rattle.laws.proofs.Sampled.{sample-ok}
-use Rattle.laws.proofs.Before.{step-unpadded}
 use Rattle.laws.proofs.Unpadded.{sample-padded}
+use Rattle.laws.proofs.UnpaddedSample.{step-unpadded}
 use Rattle.capture.specs.Answers.{ended}
 use Rattle.full_word.specs.Answers.{with-word}
 use Rattle.sampling.specs.Unpadded.{Plain}
@@ -67,7 +66,7 @@ module _ (d : Device) (b : List ℕ) (w : ℕ) (well : WellFormed d) (laid : Lai
 
 -- A sample that pads no word, from what rule 1, rules 2 to 8 and rule 9 leave and answer.
 pub stepped : (d : Device) (b l v : List ℕ) (w : ℕ) {g : Granted} {c : Captured} {r : Completed} → Plain (capture-of d) w → g ≡ granted-of d b w
-    → c ≡ capture-sample-by frame-end-before-W4 (capture-of d) w → r ≡ complete (c .word) c (g .state)
+    → c ≡ unpadded-sample (capture-of d) w → r ≡ complete (c .word) c (g .state)
     → _≡_ {A = Noted}
     (record { device = r .device; buffer = g .buffer; landings = note-landing (g .landing) l; words = note-packing (r .packed) v })
     (noted-step (record { device = d; buffer = b; landings = l; words = v }) w)

@@ -4,7 +4,7 @@ use mathlib.Core.Bool.{Bool, true, false, _&&_, Bool·beq, false≢true}
 use mathlib.Core.List.{List, [], _∷_}
 use mathlib.Core.Option.{none}
 use mathlib.Core.Path.{_≡_, refl, sym, _∙_}
-use Prim.Native.Nat.{ℕ, suc, _+_, _-_, _≤_, _<_}
+use Prim.Native.Nat.{ℕ, _+_, _-_, _≤_, _<_}
 use native.Mathlib.Numerals.{add-one}
 use native.Mathlib.Omega.{arith}
 use lib.Dec.{ltb}
@@ -13,16 +13,16 @@ use lib.Seq.{drop-cons}
 use borrow.Author.Tests.{ltb-false}
 use Rattle.bits.proofs.Booleans.{by-cond, and-unit}
 use Rattle.registers.specs.Control.{jpeg, embedded, vspol}
-use Rattle.samples.specs.Samples.{vsync-pin}
+use Rattle.samples.specs.Samples.{vsync-pin, level-run}
+use Rattle.samples.proofs.Levels.{AtLevel, run-level, run-within, run-on}
 use Rattle.rules.specs.declared.Device.{Device}
 use Rattle.rules.specs.State.{capture-of}
 use Rattle.rules.specs.Run.{step}
 use Rattle.laws.proofs.RegisterValues.{half-setup, same-jpeg, same-embedded, same-vspol}
 use Rattle.laws.proofs.KeepsSample.{step-half}
 use Rattle.laws.proofs.Unpadded.{none-without-jpeg, none-unless-vsync, none-without-data, step-without-data}
-use Rattle.sampling.specs.Levels.{level-run, stretch}
 use Rattle.sampling.specs.Notes.{Noted, noted-step}
-use Rattle.sampling.specs.Unpadded.{Plain, Unpadded}
+use Rattle.sampling.specs.Unpadded.{Plain, Unpadded, stretch}
 
 -- ESS stays.
 step-plain : (d : Device) (b : List ℕ) (w : ℕ) → embedded (d .core .capture .registers .cr) ≡ false → embedded (step d b w .device .core .capture .registers .cr) ≡ false
@@ -44,51 +44,11 @@ pub rest-unpadded : (samples : List ℕ) (n n′ : Noted) (i : ℕ) → i < leng
 unfolding Unpadded noted-step
 rest-unpadded samples n n′ i inside u e = rw (e, add-one) ((rw (drop-cons samples i 0 inside) at u) .1)
 
--- Samples at which VSYNC has a level.
-AtLevel : Bool → List ℕ → Type 0
-AtLevel level [] = Unit {0}
-AtLevel level (w ∷ ws) = (vsync-pin w ≡ level) × AtLevel level ws
-
-same-bool : (a b : Bool) → Bool·beq a b ≡ true → a ≡ b
-same-bool true true e = refl
-same-bool true false e = absurd (false≢true e)
-same-bool false true e = absurd (false≢true e)
-same-bool false false e = refl
-
 beq-same : (a : Bool) → Bool·beq a a ≡ true
 beq-same true = refl
 beq-same false = refl
 
-run-level : (level : Bool) (ws : List ℕ) → AtLevel level (take (level-run level ws) ws)
-unfolding level-run AtLevel
-run-level level [] = tt
-run-level level (w ∷ ws) =
-    by-cond (λ (n : ℕ). AtLevel level (take n (w ∷ ws))) (Bool·beq (vsync-pin w) level) (suc (level-run level ws)) 0
-    (λ e. (same-bool (vsync-pin w) level e, run-level level ws))
-    (λ e. tt)
-
-pub run-within : (level : Bool) (ws : List ℕ) → level-run level ws ≤ length ws
-unfolding level-run
-run-within level [] = omega arith
-run-within level (w ∷ ws) =
-    by-cond (λ (n : ℕ). n ≤ suc (length ws)) (Bool·beq (vsync-pin w) level) (suc (level-run level ws)) 0 (λ e. omega (arith, run-within level ws)) (λ e. omega arith)
-
--- One sample further, and where the level changes.
-pub run-on : (samples : List ℕ) (i : ℕ) (level : Bool) → i < length samples → Bool·beq (vsync-pin (getD samples i 0)) level ≡ true
-    → level-run level (drop i samples) ≡ suc (level-run level (drop (suc i) samples))
-unfolding level-run
-run-on samples i level inside e = rw (drop-cons samples i 0 inside, e)
-
-pub run-ends : (samples : List ℕ) (i : ℕ) (level : Bool) → i < length samples → Bool·beq (vsync-pin (getD samples i 0)) level ≡ false
-    → level-run level (drop i samples) ≡ 0
-unfolding level-run
-run-ends samples i level inside e = rw (drop-cons samples i 0 inside, e)
-
-pub run-of-none : (level : Bool) → level-run level [] ≡ 0
-unfolding level-run
-run-of-none level = refl
-
--- Such samples pad no word where VSYNC does not blank at that level, or no datum waits.
+-- Samples at which VSYNC has a level pad no word where it does not blank at that level, or no datum waits.
 step-vspol : (d : Device) (b : List ℕ) (w : ℕ) → vspol (step d b w .device .core .capture .registers .cr) ≡ vspol (d .core .capture .registers .cr)
 step-vspol d b w = same-vspol _ _ (half-setup _ _ (step-half d b w))
 

@@ -3,11 +3,11 @@ use mathlib.Core.List.{List}
 use Prim.Native.Nat.{ℕ}
 use Rattle.refusals.specs.Refusals.{refused, answered}
 use Rattle.refusals.specs.Table.{number}
-use Rattle.output.specs.Answers.{landing}
+use Rattle.output.specs.Answers.{landing, packing}
 use Rattle.rules.specs.declared.Core.{Core}
 use Rattle.rules.specs.declared.Device.{Device}
 use Rattle.rules.specs.Run as run-rules
-use Rattle.full_word.specs.Answers.{packing, device}
+use Rattle.full_word.specs.Answers.{device}
 use Rattle.sampling.specs.declared.SampledCore.{SampledCore}
 use Rattle.sampling.specs.declared.SampledCore.the-variants as core-cases
 use Rattle.sampling.specs.Notes.{Noted}

@@ -1,9 +1,9 @@
--- Samples with their two answers noted in lent places (crate `full_word`, Notes). No contract of a call that users make cites them.
+-- Samples with their two answers noted in lent places (crate `fifo`, Notes). No contract of a call that users make cites them.
 use mathlib.Core.List.{List, [], _∷_}
 use Prim.Native.Nat.{ℕ}
 use Rattle.rules.specs.declared.Device.{Device}
 use Rattle.rules.specs.Run.{step}
-use Rattle.full_word.specs.Notes.{note-landing, note-packing}
+use Rattle.fifo.specs.Notes.{note-landing, note-packing}
 
 -- Device, frame buffer and places.
 pub record Noted : Type 0 where

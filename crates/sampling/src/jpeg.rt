@@ -4,28 +4,29 @@ ghost use mathlib.Core.Option.{some};
 ghost use mathlib.Core.Path.{_≡_};
 ghost use Prim.Native.Nat.{_+_, _<_, _^_};
 ghost use lib.Dec.{ltb};
-ghost use lib.ListN.{length, drop, getD};
+ghost use lib.ListN.{length};
 ghost use Rattle.registers.specs.Control as control-fields;
 ghost use Rattle.samples.specs.Samples as sample-fields;
 ghost use Rattle.output.specs.Answers as output-answers;
 ghost use Rattle.output.specs.WellFormed.{Laid};
 ghost use Rattle.rules.proofs.WellFormed.{WellFormed};
-ghost use Rattle.laws.specs.Padding as padding;
+ghost use Rattle.rules.specs.Capture as capture-rules;
 ghost use Rattle.full_word.specs.Answers as word-answers;
 ghost use Rattle.sampling.specs.Answers as sample-answers;
-ghost use Rattle.sampling.specs.Levels as levels;
 ghost use Rattle.sampling.specs.Notes as note-rules;
+ghost use Rattle.sampling.specs.Unpadded as unpadded;
 use crate::granted;
 use crate::unpadded_steps;
 use capture::syncs::blanks;
-use full_word::notes::note_landing;
-use full_word::notes::note_packing;
+use fields::control;
+use fifo::count_sample;
+use fifo::notes::note_landing;
+use fifo::notes::note_packing;
 use full_word::padded_word;
 use output::SLOTS;
-use output::count_sample;
-use registers::control;
 use rules::Capture;
 use rules::Core;
+use samples::level_end;
 use samples::vsync_pin;
 
 // The nine rules in order for a sample that pads a word, with the answers of rules 1 and 9 noted.
@@ -40,7 +41,7 @@ fn padded_step(
     requires { ⌜ WellFormed (word-answers.device d (now slots)) ⌝ }
     requires { ⌜ Laid (output-answers.left (d .output) (now slots)) ⌝ }
     requires { ⌜ d .output .counts .samples + 1 < 2 ^ 32 ⌝ }
-    requires { ⌜ (control-fields.embedded (d .capture .registers .cr) ≡ false) × (padding.padded-at (d .capture) w ≡ some (d .capture .partial .bits)) ⌝ }
+    requires { ⌜ (control-fields.embedded (d .capture .registers .cr) ≡ false) × (capture-rules.padded-at (d .capture) w ≡ some (d .capture .partial .bits)) ⌝ }
     ensures { λ r. ⌜ sample-answers.noted r (now (slots .exit)) (now (buffer .exit)) (now (landings .exit)) (now (words .exit)) ≡ note-rules.noted-step (sample-answers.noted d (now (slots .entry)) (now (buffer .entry)) (now (landings .entry)) (now (words .entry))) w ⌝ }
 {
     let s = capture::apart(d.capture);
@@ -65,34 +66,16 @@ fn may_pad(s: Capture, w: u32) -> bool
     false
 }
 
-// The first sample after `first` at which VSYNC has another level, or the end.
-pub fn level_end(samples: &[u32], first: usize) -> usize
-    requires { ⌜ first < length (now samples) ⌝ }
-    ensures { λ r. ⌜ r ≡ first + levels.level-run (sample-fields.vsync-pin (getD (now (samples .entry)) first 0)) (drop first (now (samples .entry))) ⌝ }
-{
-    let level = vsync_pin(samples[first]);
-    let mut i = first;
-    while i < samples.len() {
-        let w = samples[i];
-        if blanks(vsync_pin(w), level) {
-            i += 1;
-        } else {
-            return i;
-        }
-    }
-    i
-}
-
 // The next samples: one that pads a word; one that might, by itself; or those up to another level of VSYNC. Answers how far they reach.
 fn stretch(s: Capture, samples: &[u32], first: usize) -> usize
     requires { ⌜ first < length (now samples) ⌝ }
-    ensures { λ r. ⌜ r ≡ levels.stretch (now (samples .entry)) first (s .partial .count) (control-fields.vspol (s .registers .cr)) ⌝ }
+    ensures { λ r. ⌜ r ≡ unpadded.stretch (now (samples .entry)) first (s .partial .count) (control-fields.vspol (s .registers .cr)) ⌝ }
 {
     let w = samples[first];
     if may_pad(s, w) {
         return first + 1;
     }
-    level_end(samples, first)
+    level_end(samples, first, vsync_pin(w))
 }
 
 // The samples in order with JPEG 1.

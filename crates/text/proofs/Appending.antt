@@ -2,17 +2,13 @@
 use mathlib.Core.List.{List, [], _∷_, _++_}
 use mathlib.Core.Path.{_≡_, refl, sym, ap, _∙_}
 use Prim.Native.Nat.{ℕ, suc, _+_, _-_, _≤_, _<_, min}
-use native.Mathlib.Nat.{zero-add, add-zero, add-suc, suc-add}
 use native.Mathlib.Numerals.{add-one}
 use native.Mathlib.Decide.{decLe}
 use native.Mathlib.Omega.{arith}
 use lib.ListN.{length, getD, set, drop, length-append, drop-of-length-le}
 use lib.Seq.{sets, length-sets, set-out, drop-cons}
+use Rattle.numbers.proofs.Putting.{sets-append}
 use Rattle.text.specs.Putting.{Put, put}
-
-sets-append : (l : List ℕ) (i : ℕ) (bs cs : List ℕ) → sets l i (bs ++ cs) ≡ sets (sets l i bs) (i + length bs) cs
-sets-append l i [] cs = rw add-zero
-sets-append l i (b ∷ bs) cs = rw (add-suc, ← suc-add) (sets-append (set l i b) (suc i) bs cs)
 
 sets-out : (l : List ℕ) (i : ℕ) (bs : List ℕ) → length l ≤ i → sets l i bs ≡ l
 sets-out l i [] past = refl

@@ -4,14 +4,14 @@ use mathlib.Core.List.{List, [], _∷_}
 use Prim.Native.Nat.{ℕ, zero, suc, _-_, _/_, min}
 use lib.Dec.{eqb}
 use lib.ListN.{length, drop}
+use Rattle.numbers.specs.Numbers.{number-at}
 use Rattle.samples.specs.Samples.{any-bad}
 use Rattle.trace_format.specs.Format.{sample-size}
-use Rattle.trace_format.specs.Reading.{field}
 
 -- n samples from the first byte on, whatever their bits.
 unfoldable pub samples-in : ℕ → List ℕ → List ℕ
 samples-in zero bytes = []
-samples-in (suc n) bytes = field bytes 0 sample-size ∷ samples-in n (drop sample-size bytes)
+samples-in (suc n) bytes = number-at bytes 0 sample-size ∷ samples-in n (drop sample-size bytes)
 
 -- How many are given from a byte on: those that are there whole, that the array has room for, and at most as many as asked for.
 unfoldable pub how-many : List ℕ → ℕ → ℕ → ℕ → ℕ

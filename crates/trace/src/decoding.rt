@@ -4,6 +4,7 @@ ghost use mathlib.Core.Path.{_≡_};
 ghost use Prim.Native.Nat.{_+_, _*_, _≤_, min};
 ghost use lib.ListN.{length, drop};
 ghost use lib.Seq.{sets};
+ghost use Rattle.numbers.specs.Numbers.{number-at};
 ghost use Rattle.refusals.specs.Table.{outcome};
 ghost use Rattle.samples.specs.Samples as samples;
 ghost use Rattle.trace_format.specs.Format as format;
@@ -14,18 +15,18 @@ use crate::Samples;
 use crate::form::check_form;
 use crate::form::sample_count;
 use crate::form::samples_start;
+use numbers::four;
+use numbers::one;
+use numbers::three;
+use numbers::wide;
 use refusals::Outcome;
 use refusals::Refusal;
 use trace_format::SAMPLE_SIZE;
 use trace_format::Write;
-use trace_format::four;
-use trace_format::one;
-use trace_format::three;
-use trace_format::wide;
 
 // The write, and the sample, that the bytes of an item are.
 pub fn write_in(item: &[u8]) -> Write
-    ensures { λ r. ⌜ (r .offset ≡ reading.field (now (item .entry)) 0 1) × (r .value ≡ reading.field (now (item .entry)) 1 4) ⌝ }
+    ensures { λ r. ⌜ (r .offset ≡ number-at (now (item .entry)) 0 1) × (r .value ≡ number-at (now (item .entry)) 1 4) ⌝ }
 {
     let offset = one(item, 0);
     let value = four(item, 1);
@@ -33,7 +34,7 @@ pub fn write_in(item: &[u8]) -> Write
 }
 
 pub fn sample_in(item: &[u8]) -> u32
-    ensures { λ r. ⌜ r ≡ reading.field (now (item .entry)) 0 format.sample-size ⌝ }
+    ensures { λ r. ⌜ r ≡ number-at (now (item .entry)) 0 format.sample-size ⌝ }
 {
     three(item, 0)
 }
@@ -41,14 +42,14 @@ pub fn sample_in(item: &[u8]) -> u32
 // The sample at a byte, and whether it has a bit above 17.
 fn sample_at(file: &[u8], at: usize) -> u32
     requires { ⌜ at + format.sample-size ≤ length (now file) ⌝ }
-    ensures { λ r. ⌜ r ≡ reading.field (now (file .entry)) at format.sample-size ⌝ }
+    ensures { λ r. ⌜ r ≡ number-at (now (file .entry)) at format.sample-size ⌝ }
 {
     wide(file[at]) + 256 * wide(file[at + 1]) + 65536 * wide(file[at + 2])
 }
 
 fn bad_at(file: &[u8], at: usize) -> bool
     requires { ⌜ at + format.sample-size ≤ length (now file) ⌝ }
-    ensures { λ r. ⌜ r ≡ samples.bad-sample (reading.field (now (file .entry)) at format.sample-size) ⌝ }
+    ensures { λ r. ⌜ r ≡ samples.bad-sample (number-at (now (file .entry)) at format.sample-size) ⌝ }
 {
     4 <= file[at + 2]
 }

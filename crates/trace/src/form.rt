@@ -7,15 +7,15 @@ ghost use lib.ListN.{take};
 ghost use Rattle.refusals.specs.Table.{outcome};
 ghost use Rattle.trace_format.specs.Format as format;
 ghost use Rattle.trace_format.specs.Reading as reading;
+use numbers::byte;
+use numbers::four;
+use numbers::one;
+use numbers::two;
 use refusals::Outcome;
 use refusals::Refusal;
 use trace_format::SAMPLE_SIZE;
 use trace_format::WRITE_SIZE;
-use trace_format::byte;
-use trace_format::four;
 use trace_format::header_size;
-use trace_format::one;
-use trace_format::two;
 use trace_format::version_for;
 
 // Bytes 0 to 2 are the mark.

@@ -1,13 +1,15 @@
 -- What the form checks say of a file: those of its header and of its length, and what they need.
 -- The idea: an accepted file has passed every test, and each test says what it compares. Assumes nothing.
-use mathlib.Core.Bool.{true, cond, not, _||_}
+use mathlib.Core.Bool.{Bool, true, false, cond, not, _&&_, _||_}
 use mathlib.Core.List.{List, [], _∷_, _++_}
 use mathlib.Core.Path.{_≡_, refl}
 use Prim.Native.Nat.{ℕ, _≤_, _<_, _^_}
 use native.Mathlib.Omega.{arith}
 use lib.Dec.{eqb, ltb}
-use lib.ListN.{take}
+use lib.ListN.{take, getD}
 use borrow.Author.Tests.{ltb-false, eqb-true, not-false, le-ltb, eq-eqb}
+use Rattle.numbers.specs.Numbers.{number-at}
+use Rattle.numbers.proofs.NumberAt.{number-at-below}
 use Rattle.refusals.proofs.Accepted.{accepted, first-append}
 use Rattle.bits.proofs.Booleans.{and-true, by-cond, either}
 use Rattle.refusals.specs.Refusals.{_⇒_}
@@ -74,3 +76,23 @@ pub form-after-header : (f : List ℕ) (n : ℕ) → form-of f n ≡ cond (eqb (
 unfolding form-of header-refusal
 form-after-header f n =
     first-append (header-checks f n) (not (eqb n (whole f)) ⇒ 13 ∷ []) (omega arith, (omega arith, (omega arith, (omega arith, (omega arith, tt)))))
+
+-- In bytes the number of samples is never above the limit.
+pub count-below : (f : List ℕ) → ((i : ℕ) → getD f i 0 < 256) → sample-count f ≤ sample-limit
+unfolding count-size
+count-below f bytes =
+    either (λ (n : ℕ). number-at f 6 n ≤ sample-limit) (eqb (version-of f) 2) (omega (arith, number-at-below f bytes 6 4)) (omega (arith, number-at-below f bytes 6 2))
+
+-- The mark's test, byte by byte.
+pub mark-bytes : (f : List ℕ) → same (take 3 f) mark ≡ eqb (getD f 0 0) 0x46 && (eqb (getD f 1 0) 0x47 && eqb (getD f 2 0) 0x54)
+unfolding same
+mark-bytes [] = refl
+mark-bytes (a ∷ []) = refl
+mark-bytes (a ∷ b ∷ []) = refl
+mark-bytes (a ∷ b ∷ c ∷ f) = go (eqb a 0x46) (eqb b 0x47) (eqb c 0x54)
+  where
+    go : (x y z : Bool) → x && (y && (z && true)) ≡ x && (y && z)
+    go true true true = refl
+    go true true false = refl
+    go true false z = refl
+    go false y z = refl

@@ -1,17 +1,18 @@
 -- What is encoded reads back: the file of some writes and samples has good form, and holds these writes and samples.
--- The idea: a field that stands behind a known number of bytes is read as it was written; the lists by induction. Assumes nothing.
+-- The idea: a number that stands behind a known number of bytes is read as it was written; the lists by induction. Assumes nothing.
 use mathlib.Core.Bool.{true}
 use mathlib.Core.List.{List, [], _∷_, _++_, append-assoc, append-nil}
 use mathlib.Core.Path.{_≡_, refl, _∙_}
 use Prim.Native.Nat.{ℕ, suc, _+_, _*_, _^_, _≤_, _<_}
 use native.Mathlib.Omega.{arith}
 use lib.ListN.{length, take, length-append}
-use lib.Seq.{take-at, drop-at}
+use Rattle.numbers.specs.Numbers.{little, number-at}
+use Rattle.numbers.proofs.Numbers.{length-little}
+use Rattle.numbers.proofs.NumberAt.{number-at-little}
 use Rattle.trace_format.specs.declared.Write.{Write}
-use Rattle.trace_format.specs.Format.{WritesFit, sample-limit, version-for, count-size, header-length, write-size, sample-size, write-start, little, write-bytes, sample-bytes, mark, header, encode}
-use Rattle.trace_format.specs.Reading.{field, same, version-of, write-count, sample-count, whole, form-refusal, write-at, sample-at, writes-from, samples-from, writes-of, samples-of, sample-start}
+use Rattle.trace_format.specs.Format.{WritesFit, sample-limit, version-for, count-size, header-length, write-size, sample-size, write-start, write-bytes, sample-bytes, mark, header, encode}
+use Rattle.trace_format.specs.Reading.{same, version-of, write-count, sample-count, whole, form-refusal, write-at, sample-at, writes-from, samples-from, writes-of, samples-of, sample-start}
 use Rattle.trace_format.proofs.Form.{version-fits, count-fits, good-form}
-use Rattle.trace_format.proofs.Numbers.{length-little, number-little}
 
 -- What a trace file can hold.
 abbrev pub SamplesFit : List ℕ → Type 0
@@ -24,12 +25,7 @@ pub record Fits (ws : List Write) (ss : List ℕ) : Type 0 where
   pub few-writes : length ws ≤ 255
   pub few-samples : length ss ≤ sample-limit
 
--- A field behind a known number of bytes.
-pub read-field : (f pre post : List ℕ) (at n x : ℕ) → f ≡ pre ++ (little n x ++ post) → length pre ≡ at → x < 256 ^ n → field f at n ≡ x
-unfolding field
-read-field f pre post at n x e l h = rw (e, drop-at pre (little n x ++ post) at l, take-at (little n x) post n (length-little n x)) (number-little n x h)
-
-write-is : (f : List ℕ) (k : ℕ) (w : Write) → field f (write-start (version-of f) k) 1 ≡ w .offset → field f (write-start (version-of f) k + 1) 4 ≡ w .value → write-at f k ≡ w
+write-is : (f : List ℕ) (k : ℕ) (w : Write) → number-at f (write-start (version-of f) k) 1 ≡ w .offset → number-at f (write-start (version-of f) k + 1) 4 ≡ w .value → write-at f k ≡ w
 unfolding write-at
 write-is f k w p q = λ i. record { offset = p i; value = q i }
 
@@ -40,10 +36,10 @@ read-writes [] f pre post k e l h = refl
 read-writes (w ∷ ws) f pre post k e l h =
     let rest : List ℕ = write-bytes ws ++ post in
     let at : ℕ = write-start (version-of f) k in
-    let p : field f at 1 ≡ w .offset
-    = read-field f pre (little 4 (w .value) ++ rest) at 1 (w .offset) (e ∙ simp append-assoc) l (omega (arith, h .0)) in
-    let q : field f (at + 1) 4 ≡ w .value
-    = read-field f (pre ++ little 1 (w .offset)) rest (at + 1) 4 (w .value) (e ∙ simp append-assoc) (simp (length-append, length-little) (omega arith)) (omega (arith, h .1)) in
+    let p : number-at f at 1 ≡ w .offset
+    = number-at-little f pre (little 4 (w .value) ++ rest) at 1 (w .offset) (e ∙ simp append-assoc) l (omega (arith, h .0)) in
+    let q : number-at f (at + 1) 4 ≡ w .value
+    = number-at-little f (pre ++ little 1 (w .offset)) rest (at + 1) 4 (w .value) (e ∙ simp append-assoc) (simp (length-append, length-little) (omega arith)) (omega (arith, h .1)) in
     let t : writes-from f (suc k) (length ws) ≡ ws
     = read-writes ws f (pre ++ little 1 (w .offset) ++ little 4 (w .value)) post (suc k) (e ∙ simp append-assoc) (simp (length-append, length-little) (omega arith)) (h .2) in
     rw (write-is f k w p q, t)
@@ -53,8 +49,8 @@ pub read-samples : (ss : List ℕ) (f pre post : List ℕ) (k : ℕ)
 unfolding sample-bytes samples-from sample-at
 read-samples [] f pre post k e l h = refl
 read-samples (s ∷ ss) f pre post k e l h =
-    let q : field f (sample-start f k) sample-size ≡ s
-    = read-field f pre (sample-bytes ss ++ post) (sample-start f k) sample-size s (e ∙ simp append-assoc) l (omega (arith, h .0)) in
+    let q : number-at f (sample-start f k) sample-size ≡ s
+    = number-at-little f pre (sample-bytes ss ++ post) (sample-start f k) sample-size s (e ∙ simp append-assoc) l (omega (arith, h .0)) in
     let t : samples-from f (suc k) (length ss) ≡ ss
     = read-samples ss f (pre ++ little sample-size s) post (suc k) (e ∙ simp append-assoc) (simp (length-append, length-little) (omega arith)) (h .1) in
     rw (q, t)
@@ -88,20 +84,20 @@ module _ (ws : List Write) (ss : List ℕ) (fits : Fits ws ss) where
   version-back : version-of (encode ws ss) ≡ version
   unfolding encode header
   version-back =
-      read-field (encode ws ss) mark (little 1 (length ws) ++ (count ++ (write-bytes ws ++ sample-bytes ss))) 3 2 version
+      number-at-little (encode ws ss) mark (little 1 (length ws) ++ (count ++ (write-bytes ws ++ sample-bytes ss))) 3 2 version
       (simp append-assoc) refl (version-fits (length ss))
 
   pub write-count-back : write-count (encode ws ss) ≡ length ws
   unfolding encode header
   write-count-back =
-      read-field (encode ws ss) (mark ++ little 2 version) (count ++ (write-bytes ws ++ sample-bytes ss)) 5 1 (length ws)
+      number-at-little (encode ws ss) (mark ++ little 2 version) (count ++ (write-bytes ws ++ sample-bytes ss)) 5 1 (length ws)
       (simp append-assoc) (simp length-little) (omega (arith, fits .few-writes))
 
   pub sample-count-back : sample-count (encode ws ss) ≡ length ss
   unfolding encode header
   sample-count-back =
       rw version-back
-      (read-field (encode ws ss) (mark ++ little 2 version ++ little 1 (length ws)) (write-bytes ws ++ sample-bytes ss) 6 (count-size version) (length ss)
+      (number-at-little (encode ws ss) (mark ++ little 2 version ++ little 1 (length ws)) (write-bytes ws ++ sample-bytes ss) 6 (count-size version) (length ss)
       (simp append-assoc) (simp (length-append, length-little)) (count-fits (length ss) (fits .few-samples)))
 
   pub length-back : length (encode ws ss) ≡ whole (encode ws ss)

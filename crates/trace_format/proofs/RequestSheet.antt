@@ -4,8 +4,10 @@ use mathlib.Core.List.{List, [], _∷_, _++_, map}
 use mathlib.Core.Path.{_≡_, refl}
 use Prim.Native.Nat.{ℕ}
 use lib.ListN.{length, drop, replicate}
-use Rattle.trace_format.specs.Format.{little, version-for, count-size, header-length, write-bytes, sample-bytes, header, encode}
-use Rattle.trace_format.specs.Reading.{number, field, same, sample-count, whole, form-of, form-refusal, item, Item, a-write, a-sample, the-end, refused, checked, write-at, sample-at, past, found, Read, read, samples-from, file-refusal}
+use Rattle.numbers.specs.Numbers.{little, number, number-at}
+use Rattle.trace_format.specs.Format.{version-for, count-size, header-length, write-bytes, sample-bytes, header, encode}
+use Rattle.trace_format.specs.Reading.{same, sample-count, whole, form-of, form-refusal, item, Item, a-write, a-sample, the-end, refused, checked, write-at, sample-at, past, found, Read, read, samples-from, file-refusal, run-checks}
+use Rattle.refusals.specs.Refusals.{first}
 use Rattle.samples.specs.Samples.{bad-sample, any-bad}
 
 -- A file's first bytes: mark, version, number of writes; then bytes.
@@ -72,6 +74,7 @@ pub request-sheet :
     × (map (read bad-file) (0 ∷ 1 ∷ 2 ∷ 3 ∷ 4 ∷ []) ≡
     finds (a-write (record { offset = 0x0C; value = 0x04030201 })) 1 ∷ finds (refused 7) 1 ∷ finds (a-sample 0x3FFFF) 3 ∷ finds the-end 3 ∷ finds the-end 4 ∷ [])
     × (map (read no-file) (0 ∷ 1 ∷ 3 ∷ []) ≡ finds (refused 10) 0 ∷ finds (refused 10) 1 ∷ finds (refused 10) 3 ∷ [])
+    × (map first (run-checks no-file 6 8 9 ∷ run-checks bad-file 6 8 9 ∷ run-checks bad-file 0 8 9 ∷ run-checks bad-file 0 8 8 ∷ []) ≡ 10 ∷ 6 ∷ 9 ∷ 7 ∷ [])
     × (map file-refusal (FGT (1 ∷ 0 ∷ 0 ∷ 1 ∷ 0 ∷ 0xFF ∷ 0xFF ∷ 3 ∷ []) ∷ bad-file ∷ no-file ∷ []) ≡ 0 ∷ 7 ∷ 10 ∷ [])
-unfolding refused-files headers version-2 bad-file no-file form-of same field number version-for count-size little header item checked bad-sample any-bad write-at sample-at past found read samples-from file-refusal
-request-sheet = (refl, refl, refl, refl, refl, refl, refl)
+unfolding refused-files headers version-2 bad-file no-file form-of same number-at number version-for count-size little header item checked bad-sample any-bad write-at sample-at past found read samples-from file-refusal
+request-sheet = (refl, refl, refl, refl, refl, refl, refl, refl)

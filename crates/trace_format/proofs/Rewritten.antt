@@ -1,17 +1,18 @@
 -- A file of good form is the very file that `encode` gives for its writes and samples: nothing in it is left unread.
--- The idea: a field's number gives its bytes back, the items' bytes are one stretch of the file, and the stretches join. Assumes nothing.
+-- The idea: a number gives its bytes back, the items' bytes are one stretch of the file, and the stretches join. Assumes nothing.
 use mathlib.Core.List.{List, [], _++_}
 use mathlib.Core.Path.{_≡_, refl, sym, ap, _∙_}
 use Prim.Native.Nat.{ℕ, zero, suc, _+_, _*_, _≤_}
 use native.Mathlib.Omega.{arith}
-use lib.ListN.{length, take, drop, length-drop}
-use lib.Seq.{length-take-le, take-length, take-add, drop-drop}
-use Rattle.trace_format.specs.Format.{Bytes, count-size, header-length, write-size, sample-size, write-start, little, write-bytes, sample-bytes, mark, header, encode}
-use Rattle.trace_format.specs.Reading.{field, version-of, write-count, sample-count, form-refusal, write-at, sample-at, writes-from, samples-from, writes-of, samples-of, sample-start}
+use lib.ListN.{length, take, drop}
+use lib.Seq.{take-length, take-add, drop-drop}
+use Rattle.numbers.specs.Numbers.{Bytes, little, number-at}
+use Rattle.numbers.proofs.NumberAt.{little-number-at}
+use Rattle.trace_format.specs.Format.{count-size, header-length, write-size, sample-size, write-start, write-bytes, sample-bytes, mark, header, encode}
+use Rattle.trace_format.specs.Reading.{version-of, write-count, sample-count, form-refusal, write-at, sample-at, writes-from, samples-from, writes-of, samples-of, sample-start}
 use Rattle.trace_format.proofs.Form.{Formed, formed}
-use Rattle.trace_format.proofs.Numbers.{bytes-take, bytes-drop, little-number}
 
--- n bytes of a file from a byte on: two parts that meet are one part, and a field's number gives its part.
+-- n bytes of a file from a byte on: two parts that meet are one part, and a number gives its part.
 unfoldable pub part : List ℕ → ℕ → ℕ → List ℕ
 part f at n = take n (drop at f)
 
@@ -19,11 +20,9 @@ part-join : (f : List ℕ) (at n next m all : ℕ) → next ≡ at + n → all �
 unfolding part
 part-join f at n next m all p q = rw (p, q, take-add n m (drop at f), drop-drop n at f)
 
-field-bytes : (f : List ℕ) (at n : ℕ) → Bytes f → at + n ≤ length f → little n (field f at n) ≡ part f at n
-unfolding field part
-field-bytes f at n b h =
-    let l : length (take n (drop at f)) ≡ n = length-take-le n (drop at f) (simp length-drop (omega arith)) in
-    rw l at (little-number (take n (drop at f)) (bytes-take n (drop at f) (bytes-drop at f b)))
+number-part : (f : List ℕ) (at n : ℕ) → Bytes f → at + n ≤ length f → little n (number-at f at n) ≡ part f at n
+unfolding part
+number-part = little-number-at
 
 part-none : (f : List ℕ) (at n : ℕ) → n ≡ 0 → [] ≡ part f at n
 unfolding part
@@ -36,8 +35,8 @@ write-part f k zero b h = part-none f (write-start (version-of f) k) (write-size
 write-part f k (suc n) b h =
     let at : ℕ = write-start (version-of f) k in
     rw (
-      field-bytes f at 1 b (omega arith),
-      field-bytes f (at + 1) 4 b (omega arith),
+      number-part f at 1 b (omega arith),
+      number-part f (at + 1) 4 b (omega arith),
       write-part f (suc k) n b (omega arith),
       part-join f at 1 (at + 1) 4 write-size (omega arith) (omega arith),
     )
@@ -48,7 +47,7 @@ pub sample-part : (f : List ℕ) (k n : ℕ) → Bytes f → sample-start f (k +
 unfolding sample-bytes samples-from sample-at
 sample-part f k zero b h = part-none f (sample-start f k) (sample-size * 0) (omega arith)
 sample-part f k (suc n) b h =
-    rw (field-bytes f (sample-start f k) sample-size b (omega arith), sample-part f (suc k) n b (omega arith))
+    rw (number-part f (sample-start f k) sample-size b (omega arith), sample-part f (suc k) n b (omega arith))
     (part-join f (sample-start f k) sample-size (sample-start f (suc k)) (sample-size * n) (sample-size * suc n) (omega arith) (omega arith))
 
 pub length-writes-from : (f : List ℕ) (k n : ℕ) → length (writes-from f k n) ≡ n
@@ -69,9 +68,9 @@ header-part f b g =
     rw (← g .versioned)
     (ap (λ (x : List ℕ). x ++ little 2 (version-of f) ++ little 1 (write-count f) ++ little size (sample-count f)) m
     ∙ rw (
-      field-bytes f 3 2 b (omega (arith, g .long)),
-      field-bytes f 5 1 b (omega (arith, g .long)),
-      field-bytes f 6 size b (omega (arith, g .long)),
+      number-part f 3 2 b (omega (arith, g .long)),
+      number-part f 5 1 b (omega (arith, g .long)),
+      number-part f 6 size b (omega (arith, g .long)),
       part-join f 0 3 3 2 5 refl refl,
       part-join f 0 5 5 1 6 refl refl,
     )

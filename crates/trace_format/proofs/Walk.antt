@@ -5,9 +5,10 @@ use mathlib.Core.Path.{_≡_, sym, ap, _∙_}
 use Prim.Native.Nat.{ℕ, _+_, _-_, _≤_, _<_}
 use native.Mathlib.Omega.{arith}
 use borrow.Author.Tests.{lt-ltb, le-ltb}
+use Rattle.numbers.specs.Numbers.{Bytes, number-at}
 use Rattle.trace_format.specs.declared.Write.{Write}
-use Rattle.trace_format.specs.Format.{Bytes, sample-size, encode}
-use Rattle.trace_format.specs.Reading.{field, sample-start, Item, a-write, a-sample, the-end, refused, checked, item, past, write-count, sample-count, form-refusal, write-at, sample-at, writes-of, samples-of}
+use Rattle.trace_format.specs.Format.{sample-size, encode}
+use Rattle.trace_format.specs.Reading.{sample-start, Item, a-write, a-sample, the-end, refused, checked, item, past, write-count, sample-count, form-refusal, write-at, sample-at, writes-of, samples-of}
 use Rattle.trace_format.proofs.Rewritten.{rewritten}
 
 -- The places below the number of writes hold the writes, in order.
@@ -23,7 +24,7 @@ sample-place f k h =
     rw (le-ltb (write-count f + k) (write-count f) (omega arith), lt-ltb (write-count f + k) (write-count f + sample-count f) (omega arith), from)
 
 -- The number at a sample's byte is the sample.
-pub sample-here : (f : List ℕ) (at k : ℕ) → at ≡ sample-start f k → field f at sample-size ≡ sample-at f k
+pub sample-here : (f : List ℕ) (at k : ℕ) → at ≡ sample-start f k → number-at f at sample-size ≡ sample-at f k
 unfolding sample-at
 sample-here f at k e = rw e
 

@@ -1,25 +1,16 @@
 -- The trace file, versions 1 and 2 (document 01, "Trace file, version 1"; request W7): the bytes of some writes and samples.
 use mathlib.Core.Bool.{cond}
 use mathlib.Core.List.{List, [], _∷_, _++_}
-use Prim.Native.Nat.{ℕ, zero, suc, _+_, _*_, _/_, _%_, _^_, _<_}
+use Prim.Native.Nat.{ℕ, _+_, _*_, _^_, _<_}
 use lib.Dec.{eqb, ltb}
 use lib.ListN.{length}
+use Rattle.numbers.specs.Numbers.{little}
 use Rattle.trace_format.specs.declared.Write.{Write}
 
--- Every number of a list is a byte: so are a file's. A write's offset is a byte, its value a 32-bit number: what the code's types hold, and the premises of the two
--- round trips.
-abbrev pub Bytes : List ℕ → Type 0
-Bytes [] = Unit {0}
-Bytes (b ∷ bs) = (b < 256) × Bytes bs
-
+-- A write's offset is a byte, its value a 32-bit number: what the code's types hold, and a premise of the two round trips.
 abbrev pub WritesFit : List Write → Type 0
 WritesFit [] = Unit {0}
 WritesFit (w ∷ ws) = (w .offset < 256) × (w .value < 2 ^ 32) × WritesFit ws
-
--- The n lowest bytes of a number, little-endian.
-unfoldable pub little : ℕ → ℕ → List ℕ
-little zero x = []
-little (suc n) x = x % 256 ∷ little n (x / 256)
 
 -- A file has at most 4,294,967,295 samples: version 1 up to 16,384, version 2 above (W7).
 abbrev pub sample-limit : ℕ

@@ -3,19 +3,12 @@ use mathlib.Core.Bool.{Bool, true, false, cond, not, _&&_, _||_}
 use mathlib.Core.List.{List, [], _∷_, _++_}
 use Prim.Native.Nat.{ℕ, zero, suc, _+_, _-_, _*_}
 use lib.Dec.{eqb, ltb}
-use lib.ListN.{length, take, drop}
+use lib.ListN.{length, take}
+use Rattle.numbers.specs.Numbers.{number-at}
 use Rattle.refusals.specs.Refusals.{Test, _⇒_, first}
 use Rattle.samples.specs.Samples.{bad-sample, any-bad}
 use Rattle.trace_format.specs.declared.Write.{Write}
 use Rattle.trace_format.specs.Format.{version-for, count-size, header-length, sample-size, write-start, mark}
-
--- The number that some bytes are, little-endian; and that of n bytes of a file from a byte on.
-unfoldable pub number : List ℕ → ℕ
-number [] = 0
-number (b ∷ bs) = b + 256 * number bs
-
-unfoldable pub field : List ℕ → ℕ → ℕ → ℕ
-field file at n = number (take n (drop at file))
 
 unfoldable pub same : List ℕ → List ℕ → Bool
 same [] [] = true
@@ -25,13 +18,13 @@ same (x ∷ xs) (y ∷ ys) = eqb x y && same xs ys
 
 -- The header's numbers. Which bytes are the number of samples the version says.
 abbrev pub version-of : List ℕ → ℕ
-version-of file = field file 3 2
+version-of file = number-at file 3 2
 
 abbrev pub write-count : List ℕ → ℕ
-write-count file = field file 5 1
+write-count file = number-at file 5 1
 
 abbrev pub sample-count : List ℕ → ℕ
-sample-count file = field file 6 (count-size (version-of file))
+sample-count file = number-at file 6 (count-size (version-of file))
 
 -- The byte at which sample number k of a file begins; and the length that the header gives.
 abbrev pub sample-start : List ℕ → ℕ → ℕ
@@ -75,10 +68,10 @@ checked w = cond (bad-sample w) (refused 7) (a-sample w)
 
 -- Write number k, and sample number k, of a file.
 unfoldable pub write-at : List ℕ → ℕ → Write
-write-at file k = record { offset = field file (write-start (version-of file) k) 1; value = field file (write-start (version-of file) k + 1) 4 }
+write-at file k = record { offset = number-at file (write-start (version-of file) k) 1; value = number-at file (write-start (version-of file) k + 1) 4 }
 
 unfoldable pub sample-at : List ℕ → ℕ → ℕ
-sample-at file k = field file (sample-start file k) sample-size
+sample-at file k = number-at file (sample-start file k) sample-size
 
 -- Places are numbered from 0: first the writes, then the samples, then the end.
 unfoldable pub item : List ℕ → ℕ → Item
@@ -128,3 +121,13 @@ samples-of file = samples-from file 0 (sample-count file)
 -- An accepted file passes the form checks, and none of its samples has a bit above 17.
 unfoldable pub file-refusal : List ℕ → ℕ
 file-refusal file = cond (eqb (form-refusal file) 0) (cond (any-bad (samples-of file)) 7 0) (form-refusal file)
+
+-- The checks of a file that is run, whatever module runs it, over a memory of so many bytes; `written` is the number of the first refused write, 0 where none is. In order: 13,
+-- 10, 11, 13, 12, 13, the refused write's number, 9, 7.
+abbrev pub run-checks : List ℕ → ℕ → ℕ → ℕ → List Test
+run-checks file written size start =
+    not (eqb (form-refusal file) 0) ⇒ form-refusal file ∷
+    not (eqb written 0) ⇒ written ∷
+    ltb size start ⇒ 9 ∷
+    any-bad (samples-of file) ⇒ 7 ∷
+    []

@@ -5,6 +5,9 @@ ghost use Rattle.trace_format.specs.Reading as reading;
 ghost use Rattle.trace_reader.specs.Answers as trace-answers;
 use crate::Item;
 use crate::Read;
+use numbers::four;
+use numbers::one;
+use numbers::three;
 use refusals::Outcome;
 use refusals::Refusal;
 use samples::bad_sample;
@@ -16,9 +19,6 @@ use trace::write_count;
 use trace_format::SAMPLE_SIZE;
 use trace_format::WRITE_SIZE;
 use trace_format::Write;
-use trace_format::four;
-use trace_format::one;
-use trace_format::three;
 
 // A sample, or refusal 7.
 fn checked(w: u32) -> Item

@@ -1,55 +1,21 @@
--- A buffer that is being filled stretch by stretch: what the writer's loops keep.
--- The idea: what is still to be put, from the present place on, leads to the same buffer. Assumes nothing.
-use mathlib.Core.List.{List, [], _∷_, _++_}
+-- A buffer that is being filled with writes and with samples: what the writer's loops keep. Assumes nothing.
+use mathlib.Core.List.{List, [], _++_}
 use mathlib.Core.Path.{_≡_, refl, sym, ap, _∙_}
-use Prim.Native.Nat.{ℕ, zero, suc, _+_, _-_, _*_, _/_, _%_, _≤_, _<_}
+use Prim.Native.Nat.{ℕ, zero, suc, _+_, _-_, _*_, _≤_, _<_}
 use native.Mathlib.Nat.{zero-add}
 use native.Mathlib.Numerals.{add-one}
 use native.Mathlib.Omega.{arith}
 use lib.ListN.{length, getD, drop, length-append, length-drop, drop-of-length-le}
-use lib.Seq.{sets, length-sets, drop-cons}
+use lib.Seq.{sets, drop-cons}
+use Rattle.numbers.specs.Numbers.{little}
+use Rattle.numbers.proofs.Numbers.{length-little}
+use Rattle.numbers.proofs.Putting.{sets-append, Filling, fill-on}
 use Rattle.trace_format.specs.declared.Write.{Write}
-use Rattle.trace_format.specs.Format.{version-for, count-size, header-length, write-size, sample-size, write-start, little, write-bytes, sample-bytes, header, encode}
+use Rattle.trace_format.specs.Format.{version-for, header-length, write-size, sample-size, write-start, write-bytes, sample-bytes, header, encode}
 use Rattle.trace_writer.specs.Writing.{given, given-from}
-use Rattle.trace_format.proofs.Numbers.{length-little}
-use Rattle.trace_format.proofs.Putting.{sets-append}
 use Rattle.trace_format.proofs.ReadBack.{length-write-bytes, length-sample-bytes, length-header}
 
--- A buffer that is being filled: what is left, put from the place on, gives the whole; there is room for it.
-pub record Filling (whole : List ℕ) (out : List ℕ) (place : ℕ) (left : List ℕ) : Type 0 where
-  pub leads : sets out place left ≡ whole
-  pub room : place + length left ≤ length out
-
--- One stretch further.
-pub fill-on : (whole out out′ : List ℕ) (place place′ : ℕ) (left bs cs : List ℕ) → Filling whole out place left
-    → left ≡ bs ++ cs → out′ ≡ sets out place bs → place′ ≡ place + length bs → Filling whole out′ place′ cs
-fill-on whole out out′ place place′ left bs cs f e s p =
-    record {
-      leads = rw (s, p, ← sets-append out place bs cs, ← e) (f .leads);
-      room = rw (s, p, length-sets out place bs) (omega (arith, f .room, ap length e ∙ length-append bs cs));
-    }
-
--- Its length is that of the buffer at the start.
-pub kept : (l bs out left : List ℕ) (i place : ℕ) → Filling (sets l i bs) out place left → length out ≡ length l
-kept l bs out left i place f = sym (length-sets out place left) ∙ ap length (f .leads) ∙ length-sets l i bs
-
--- Nothing is left.
-pub filled : (whole out : List ℕ) (place : ℕ) (left : List ℕ) → Filling whole out place left → left ≡ [] → out ≡ whole
-filled whole out place left f e = rw e at (f .leads)
-
--- The first byte of a number's, the first write's bytes and the first sample's, and what is left after them.
-pub first-byte : (n x : ℕ) → 0 < n → little n x ≡ (x % 256 ∷ []) ++ little (n - 1) (x / 256)
-unfolding little
-first-byte zero x h = absurd (omega arith)
-first-byte (suc n) x h =
-    let e : suc n - 1 ≡ n = omega arith in
-    rw e
-
-pub no-bytes : (n x : ℕ) → n ≤ 0 → little n x ≡ []
-unfolding little
-no-bytes zero x h = refl
-no-bytes (suc n) x h = absurd (omega arith)
-
+-- The first write's bytes and the first sample's, and what is left after them.
 pub first-write : (offsets values : List ℕ) (k n : ℕ) → k < n
     → write-bytes (given-from offsets values k (n - k)) ≡ little 1 (getD offsets k 0) ++ little 4 (getD values k 0) ++ write-bytes (given-from offsets values (k + 1) (n - (k + 1)))
 unfolding write-bytes given-from
@@ -107,12 +73,6 @@ pub sample-on : (whole out out′ samples : List ℕ) (at k : ℕ)
     → Filling whole out′ (at + sample-size * (k + 1)) (sample-bytes (drop (k + 1) samples))
 sample-on whole out out′ samples at k f h e =
     fill-on whole out out′ (at + sample-size * k) (at + sample-size * (k + 1)) _ (little sample-size (getD samples k 0)) (sample-bytes (drop (k + 1) samples)) f (first-sample samples k h) e (omega (arith, length-little sample-size (getD samples k 0)))
-
--- The header's four stretches.
-pub header-put : (out : List ℕ) (writes samples version size : ℕ) → version ≡ version-for samples → size ≡ count-size version
-    → sets (sets (sets (sets out 0 (little 3 0x544746)) 3 (little 2 version)) 5 (little 1 writes)) 6 (little size samples) ≡ sets out 0 (header writes samples)
-unfolding header little
-header-put out writes samples version size p q = rw (q, p)
 
 -- Where the writes, and the samples, begin.
 pub writes-start : (out offsets values : List ℕ) (at n : ℕ) → at + write-size * n ≤ length out

@@ -12,16 +12,18 @@ use lib.Dec.{ltb, leb}
 use lib.ListN.{length, take, drop, replicate}
 use lib.Seq.{take-at}
 use borrow.Author.Tests.{ltb-false, le-ltb, leb-false}
+use Rattle.numbers.specs.Numbers.{Bytes}
 use Rattle.refusals.proofs.Accepted.{accepted}
 use Rattle.bits.proofs.Booleans.{or-false}
 use Rattle.refusals.specs.Refusals.{_⇒_, answered}
 use Rattle.samples.specs.Samples.{bad-sample, any-bad}
 use Rattle.trace_format.specs.declared.Write.{Write}
-use Rattle.trace_format.specs.Format.{Bytes, WritesFit, sample-limit, encode}
+use Rattle.trace_format.specs.Format.{WritesFit, sample-limit, encode}
 use Rattle.trace_format.specs.Reading.{Item, a-write, a-sample, the-end, checked, past, found, read, visits, form-refusal, write-count, sample-count, sample-at, writes-from, samples-from, writes-of, samples-of}
 use Rattle.trace_writer.specs.Writing.{WriteResult, writer-refusal, write}
-use Rattle.trace_format.proofs.Fields.{field-one, count-below}
-use Rattle.trace_format.proofs.Numbers.{byte-below}
+use Rattle.trace_format.proofs.Form.{count-below}
+use Rattle.numbers.proofs.Numbers.{byte-below}
+use Rattle.numbers.proofs.NumberAt.{number-at-one}
 use Rattle.trace_format.proofs.ReadBack.{SamplesFit, Fits, form-back, write-count-back, sample-count-back, writes-back, samples-back}
 use Rattle.trace_format.proofs.Rewritten.{rewritten, length-writes-of, length-samples-of}
 use Rattle.trace_format.proofs.Walk.{write-place, sample-place, end-place}
@@ -106,7 +108,7 @@ pub written-again : (f out : List ℕ) → Bytes f → form-refusal f ≡ 0 → 
 unfolding write writer-refusal
 written-again f out bytes good fine h =
     let few : sample-count f ≤ sample-limit = count-below f (λ i. byte-below f i bytes) in
-    let writes : write-count f ≤ 255 = rw (field-one f 5) (omega (arith, byte-below f 5 bytes)) in
+    let writes : write-count f ≤ 255 = rw (number-at-one f 5) (omega (arith, byte-below f 5 bytes)) in
     rw (
       rewritten f bytes good,
       length-writes-of f,

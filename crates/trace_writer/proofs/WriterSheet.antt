@@ -6,7 +6,8 @@ use lib.ListN.{length, replicate}
 use Rattle.refusals.specs.Refusals.{Answer, refused, answered}
 use Rattle.samples.specs.Samples.{bad-sample, any-bad}
 use Rattle.trace_format.specs.declared.Write.{Write}
-use Rattle.trace_format.specs.Format.{little, version-for, count-size, write-bytes, sample-bytes, header, encode}
+use Rattle.numbers.specs.Numbers.{little}
+use Rattle.trace_format.specs.Format.{version-for, count-size, write-bytes, sample-bytes, header, encode}
 use Rattle.trace_writer.specs.Writing.{WriteResult, writer-refusal, write, given-from, given}
 
 abbrev a-write : Write

@@ -1,20 +1,21 @@
 // The writer: a trace file of some writes and samples into a lent buffer. It answers for every input. proofs/ has the two round trips.
 ghost use mathlib.Core.Path.{_≡_};
 ghost use mathlib.Core.List.{_++_};
-ghost use Prim.Native.Nat.{_+_, _*_, _^_, _≤_, _<_};
+ghost use Prim.Native.Nat.{_+_, _*_, _≤_};
 ghost use lib.ListN.{length};
 ghost use lib.Seq.{sets};
+ghost use Rattle.numbers.specs.Numbers.{little};
 ghost use Rattle.trace_format.specs.Format as format;
 ghost use Rattle.trace_writer.specs.Writing as writing;
 ghost use Rattle.trace_writer.specs.Answers as writer-answers;
+use numbers::put;
+use numbers::wide;
 use refusals::Refusal;
 use samples::any_bad;
 use trace_format::SAMPLE_SIZE;
 use trace_format::WRITE_SIZE;
-use trace_format::count_size;
-use trace_format::header_size;
-use trace_format::version_for;
-use trace_format::wide;
+use trace_format::header_for;
+use trace_format::put_header;
 
 // Its answer: the length of the file that it wrote, or why it wrote none.
 pub enum Written {
@@ -22,46 +23,10 @@ pub enum Written {
     Refused(Refusal),
 }
 
-// The n lowest bytes of a number, from a byte on.
-fn put(out: &mut [u8], at: usize, n: usize, x: u32)
-    requires { ⌜ at + n ≤ length (now out) ⌝ }
-    ensures { λ _. ⌜ now (out .exit) ≡ sets (now (out .entry)) at (format.little n x) ⌝ }
-{
-    let mut place = at;
-    let mut left = n;
-    let mut rest = x;
-    while 0 < left {
-        out[place] = (rest % 256) as u8;
-        place += 1;
-        left -= 1;
-        rest /= 256;
-    }
-}
-
-// The bytes of the header of a file with that many samples.
-fn header_for(samples: usize) -> usize
-    ensures { λ r. ⌜ r ≡ format.header-length (format.version-for samples) ⌝ }
-    ensures { λ r. ⌜ r < 2 ^ 4 ⌝ }
-{
-    header_size(version_for(samples))
-}
-
-// The mark, the version and the two numbers.
-fn put_header(out: &mut [u8], writes: u32, samples: u32)
-    requires { ⌜ format.header-length (format.version-for samples) ≤ length (now out) ⌝ }
-    ensures { λ _. ⌜ now (out .exit) ≡ sets (now (out .entry)) 0 (format.header writes samples) ⌝ }
-{
-    let version = version_for(samples as usize);
-    put(out, 0, 3, 0x544746);
-    put(out, 3, 2, version);
-    put(out, 5, 1, writes);
-    put(out, 6, count_size(version), samples);
-}
-
 // The offset and the value of a write, from a byte on.
 fn put_write(out: &mut [u8], at: usize, offset: u8, value: u32)
     requires { ⌜ at + format.write-size ≤ length (now out) ⌝ }
-    ensures { λ _. ⌜ now (out .exit) ≡ sets (now (out .entry)) at (format.little 1 offset ++ format.little 4 value) ⌝ }
+    ensures { λ _. ⌜ now (out .exit) ≡ sets (now (out .entry)) at (little 1 offset ++ little 4 value) ⌝ }
 {
     put(out, at, 1, wide(offset));
     put(out, at + 1, 4, value);

@@ -19,12 +19,13 @@ use Rattle.buffers.specs.declared.Buffer.the-variants.{A, B}
 use Rattle.buffers.specs.declared.Turns.{Turns}
 use Rattle.buffers.specs.Turns.{is-b, with-turn, with-tags, first-word, word-held, discarded, word-lost, oldest-buffer, oldest-opens, next-place, oldest-place}
 use Rattle.buffers.specs.Kept.{keep, keeps}
-use Rattle.output.specs.Output.{with-place, room}
+use Rattle.output.specs.Output.{with-place, room, Packed, nothing, completed, lost}
 use Rattle.rules.specs.State.{capture-of}
 use Rattle.rules.specs.Sample.{capture-sample}
 use Rattle.rules.specs.RegisterCalls.{placed}
-use Rattle.rules.specs.Run.{Packed, nothing, completed, lost, step, Ran, steps}
-use Rattle.laws.specs.Ledger.{Ledger, sample-entry, landing-entry, word-entry, numbers}
+use Rattle.rules.specs.Run.{step, Ran, steps}
+use Rattle.output.specs.Ledger.{Ledger, sample-entry, landing-entry, numbers}
+use Rattle.laws.specs.Ledger.{word-entry}
 use Rattle.board_rules.specs.TwoBuffers.{landing-event, word-event, Pair, part, Two, two-steps}
 use Rattle.two_buffers.specs.Stretches.{tags-in, long, no-room, opening-behind, words-behind, turns-behind, Lasts}
 use Rattle.two_buffers.proofs.Alone.{none-yet}

@@ -11,14 +11,14 @@ use Rattle.buffers.specs.Story as story
 use Rattle.buffers.specs.Kept.{Kept, keep, keeps}
 use Rattle.output.specs.declared.Fate.{Fate}
 use Rattle.output.specs.declared.Fate.the-variants.{Held, Lost}
-use Rattle.output.specs.Output.{OutputState, offer}
+use Rattle.output.specs.Output.{OutputState, offer, Packed}
 use Rattle.rules.specs.declared.Capture.{Capture}
 use Rattle.rules.specs.declared.Core.{Core}
 use Rattle.rules.specs.declared.Device.{Device}
 use Rattle.rules.specs.State.{capture-of, is-open, raise, with-registers}
 use Rattle.rules.specs.Capture.{Captured, flagged}
 use Rattle.rules.specs.Sample.{capture-sample}
-use Rattle.rules.specs.Run.{Packed, Completed, lose-frame, after-word, complete, after-grant, step}
+use Rattle.rules.specs.Run.{Completed, lose-frame, after-word, complete, after-grant, step}
 use Rattle.board_rules.specs.TwoBuffers.{landing-event, word-event, frame-event, sample-events}
 use Rattle.board_laws.proofs.TwoKeeps.{keeps-append}
 use Rattle.two_buffers.specs.Answers.{closing-events, events}

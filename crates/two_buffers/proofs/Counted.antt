@@ -11,8 +11,9 @@ use Rattle.buffers.specs.declared.Buffer.{Buffer}
 use Rattle.buffers.specs.declared.Turns.{Turns}
 use Rattle.buffers.specs.Kept.{Kept, keeps}
 use Rattle.output.specs.declared.Counts.{Counts}
-use Rattle.rules.specs.Run.{Packed, nothing, completed, lost}
-use Rattle.laws.specs.Ledger.{Ledger, sample-entry, landing-entry, word-entry}
+use Rattle.output.specs.Output.{Packed, nothing, completed, lost}
+use Rattle.output.specs.Ledger.{Ledger, sample-entry, landing-entry}
+use Rattle.laws.specs.Ledger.{word-entry}
 use Rattle.board_rules.specs.TwoBuffers.{landing-event, word-event}
 use Rattle.two_buffers.specs.Stretches.{next-buffer, Done}
 use Rattle.two_buffers.proofs.Doing.{doing, keeping, Going, landing-on, held-on, lost-on}

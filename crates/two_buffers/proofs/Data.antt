@@ -18,7 +18,8 @@ use Rattle.rules.specs.State.{is-open, with-pins, with-frame, with-waiting}
 use Rattle.rules.specs.Capture.{Captured, no-word, working-edge, enabled, remember-pins}
 use Rattle.rules.specs.Codes.{arrived, each-datum, byte-in, at-byte}
 use Rattle.rules.specs.Sample.{byte-of, edge, capture-sample}
-use Rattle.rules.specs.Run.{nothing, after-grant, step}
+use Rattle.output.specs.Output.{nothing}
+use Rattle.rules.specs.Run.{after-grant, step}
 use Rattle.laws.proofs.FrameCodes.{each-same}
 use Rattle.board_rules.specs.TwoBuffers.{frame-event}
 use Rattle.two_buffers.proofs.Calm.{no-event}

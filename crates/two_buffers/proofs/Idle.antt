@@ -13,7 +13,7 @@ use Rattle.registers.specs.Control.{snapshot, enable, embedded, vspol}
 use Rattle.samples.specs.Samples.{vsync-pin, bus-grant}
 use Rattle.output.specs.declared.Fate.{Fate}
 use Rattle.output.specs.declared.Fate.the-variants.{Held, Lost}
-use Rattle.output.specs.Output.{OutputState, contents, push, with-held, holding, with-counts, with-place, count-sample, count-word, count-discarded, count-landed, room, Granted, no-landing, lands, oldest-lands, grant, Offered, offer, discard}
+use Rattle.output.specs.Output.{OutputState, contents, push, with-held, holding, with-counts, with-place, count-sample, count-word, count-discarded, count-landed, room, Granted, no-landing, lands, oldest-lands, grant, Offered, offer, discard, nothing, lost, counted}
 use Rattle.rules.specs.declared.Capture.{Capture}
 use Rattle.rules.specs.declared.Frame.the-variants.{Closed}
 use Rattle.rules.specs.declared.Device.{Device}
@@ -21,7 +21,7 @@ use Rattle.rules.specs.State.{capture-of, output-of, raise, clear-capture, clos
 use Rattle.rules.specs.Capture.{Captured, flagged}
 use Rattle.rules.specs.Sample.{capture-sample}
 use Rattle.rules.specs.RegisterCalls.{placed}
-use Rattle.rules.specs.Run.{nothing, lost, Completed, lose-frame, after-word, complete, after-grant, counted, step}
+use Rattle.rules.specs.Run.{Completed, lose-frame, after-word, complete, after-grant, step}
 use Rattle.laws.proofs.KeepsSample.{by-word}
 use Rattle.two_buffers.proofs.Calm.{Still, still-sample, word-calms}
 

@@ -15,7 +15,8 @@ use Rattle.rules.specs.declared.Frame.the-variants.{Closed, Open}
 use Rattle.rules.specs.declared.Device.{Device}
 use Rattle.rules.specs.State.{capture-of, is-open}
 use Rattle.rules.specs.Sample.{capture-sample}
-use Rattle.rules.specs.Run.{nothing, lost, step}
+use Rattle.output.specs.Output.{nothing, lost}
+use Rattle.rules.specs.Run.{step}
 use Rattle.laws.proofs.RegisterValues.{half-setup, same-embedded, same-vspol}
 use Rattle.laws.proofs.KeepsSample.{step-half}
 use Rattle.laws.proofs.Errors.{no-error-by-pins}

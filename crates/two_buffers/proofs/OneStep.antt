@@ -12,7 +12,7 @@ use Rattle.buffers.specs.declared.Buffer.{Buffer}
 use Rattle.buffers.specs.Turns.{oldest-buffer, oldest-place}
 use Rattle.buffers.specs.Story as story
 use Rattle.buffers.specs.Kept.{Kept, keep, keeps}
-use Rattle.output.specs.Output.{OutputState, contents, with-place}
+use Rattle.output.specs.Output.{OutputState, contents, with-place, Packed, completed}
 use Rattle.output.specs.WellFormed.{Laid}
 use Rattle.rules.specs.declared.Capture.{Capture}
 use Rattle.rules.specs.declared.Core.{Core}
@@ -21,9 +21,9 @@ use Rattle.rules.specs.State.{capture-of, output-of, is-open}
 use Rattle.rules.specs.Capture.{Captured}
 use Rattle.rules.specs.Sample.{capture-sample}
 use Rattle.rules.specs.RegisterCalls as register-rules
-use Rattle.rules.specs.Run.{Packed, completed, complete, after-grant, Stepped, step}
+use Rattle.rules.specs.Run.{complete, after-grant, Stepped, step}
 use Rattle.rules.proofs.WellFormed.{WellFormed}
-use Rattle.laws.specs.Ledger.{numbers}
+use Rattle.output.specs.Ledger.{numbers}
 use Rattle.laws.proofs.Errors.{no-word-in-error}
 use Rattle.laws.proofs.KeepsSample.{step-laid}
 use Rattle.board_rules.specs.State.{kept-of}
@@ -31,7 +31,7 @@ use Rattle.board_rules.specs.TwoBuffers.{landing-event, word-event, frame-event
 use Rattle.board_rules.proofs.WellFormed.{TurnsOk}
 use Rattle.laws.proofs.KeepsWrites.{placed-ok}
 use Rattle.board_laws.proofs.TwoKeeps.{keeps-append, two-step-held, Within, oldest-at-most, landing-within}
-use Rattle.full_word.specs.Notes.{noted-landing, noted-packing}
+use Rattle.fifo.specs.Notes.{noted-landing, noted-packing}
 use Rattle.sampling.specs.Notes.{Noted, noted-steps}
 use Rattle.sampling.specs.Answers.{noted}
 use Rattle.sampling.proofs.Noted.{one-sample}

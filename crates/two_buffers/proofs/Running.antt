@@ -11,14 +11,15 @@ use Rattle.buffers.specs.declared.Buffer.the-variants.{A, B}
 use Rattle.buffers.specs.declared.Turns.{Turns}
 use Rattle.buffers.specs.Turns.{oldest-buffer, oldest-place}
 use Rattle.buffers.specs.Kept.{Kept, keeps}
-use Rattle.output.specs.Output.{with-place}
+use Rattle.output.specs.Output.{with-place, Packed, nothing, completed, lost}
 use Rattle.rules.specs.declared.Capture.{Capture}
 use Rattle.rules.specs.declared.Device.{Device}
 use Rattle.rules.specs.State.{capture-of}
 use Rattle.rules.specs.Sample.{capture-sample}
 use Rattle.rules.specs.RegisterCalls.{placed}
-use Rattle.rules.specs.Run.{Packed, nothing, completed, lost, Stepped, step, Ran, steps}
-use Rattle.laws.specs.Ledger.{Ledger, sample-entry, landing-entry, word-entry, error-entry, enter, numbers}
+use Rattle.rules.specs.Run.{Stepped, step, Ran, steps}
+use Rattle.output.specs.Ledger.{Ledger, sample-entry, landing-entry, numbers}
+use Rattle.laws.specs.Ledger.{word-entry, error-entry, enter}
 use Rattle.laws.proofs.CountsFromHistory.{step-counted}
 use Rattle.board_rules.specs.State.{kept-of}
 use Rattle.board_rules.specs.TwoBuffers.{landing-event, word-event, frame-event, sample-events, Pair, part, with-part, Two, two-step, two-steps}

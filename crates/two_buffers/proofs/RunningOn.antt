@@ -12,12 +12,12 @@ use Rattle.buffers.specs.declared.Buffer.{Buffer}
 use Rattle.buffers.specs.declared.Turns.{Turns}
 use Rattle.buffers.specs.Turns.{oldest-buffer, oldest-place}
 use Rattle.buffers.specs.Kept.{keeps}
-use Rattle.output.specs.Output.{with-place}
+use Rattle.output.specs.Output.{with-place, lost}
 use Rattle.rules.specs.State.{capture-of}
 use Rattle.rules.specs.Sample.{capture-sample}
 use Rattle.rules.specs.RegisterCalls.{placed}
-use Rattle.rules.specs.Run.{lost, step, Ran, steps}
-use Rattle.laws.specs.Ledger.{Ledger, sample-entry, numbers}
+use Rattle.rules.specs.Run.{step, Ran, steps}
+use Rattle.output.specs.Ledger.{Ledger, sample-entry, numbers}
 use Rattle.board_rules.specs.TwoBuffers.{landing-event, word-event, part, Two, two-steps}
 use Rattle.board_rules.proofs.WellFormed.{TurnsOk}
 use Rattle.two_buffers.specs.Stretches.{next-buffer, alone, first-opens, first-place, place-a, turns-by, Lasts}

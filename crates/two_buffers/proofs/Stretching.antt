@@ -8,9 +8,10 @@ use native.Mathlib.Omega.{arith}
 use lib.Dec.{eqb, ltb}
 use lib.ListN.{length, getD, take, drop, length-drop}
 use borrow.Author.Tests.{not-true}
-use Rattle.bits.proofs.Booleans.{by-cond, either}
+use Rattle.bits.proofs.Booleans.{same-bool, by-cond, either}
 use Rattle.registers.specs.Control.{embedded, vspol}
-use Rattle.samples.specs.Samples.{vsync-pin}
+use Rattle.samples.specs.Samples.{vsync-pin, level-run}
+use Rattle.samples.proofs.Levels.{run-within}
 use Rattle.codes.specs.Bytes.{waiting-count}
 use Rattle.buffers.specs.declared.Buffer.{Buffer}
 use Rattle.buffers.specs.declared.Buffer.the-variants.{A, B}
@@ -29,12 +30,10 @@ use Rattle.laws.proofs.KeepsSample.{step-laid}
 use Rattle.board_rules.specs.TwoBuffers.{Pair, part, with-part, Two, two-steps}
 use Rattle.board_rules.proofs.WellFormed.{TurnsOk}
 use Rattle.laws.proofs.KeepsWrites.{placed-ok}
-use Rattle.sampling.specs.Levels.{level-run}
 use Rattle.sampling.specs.DataBytes.{data-run}
 use Rattle.sampling.specs.Notes.{Noted, noted-steps}
 use Rattle.sampling.specs.Answers.{noted}
 use Rattle.sampling.proofs.Noted.{same-run}
-use Rattle.sampling.proofs.Stretches.{run-within}
 use Rattle.sampling.proofs.DataBytes.{data-within, data-part}
 use Rattle.two_buffers.specs.Answers.{placed}
 use Rattle.two_buffers.specs.Stretches.{next-buffer, alone, first-opens, first-place, place-a, turns-after, no-room, turns-behind, runs, All-blank, AtLevel, Lasts, goes-on, lasting-end, stretch-end}
@@ -105,12 +104,6 @@ unfolding runs
 behind-else o t a b e off = rw off at e
 
 -- Samples up to where VSYNC changes its level.
-same-bool : (a b : Bool) → Bool·beq a b ≡ true → a ≡ b
-same-bool true true e = refl
-same-bool true false e = absurd (false≢true e)
-same-bool false true e = absurd (false≢true e)
-same-bool false false e = refl
-
 level-blanks : (level polarity : Bool) (ws : List ℕ) → All-blank (Bool·beq level polarity) polarity (take (level-run level ws) ws)
 unfolding level-run All-blank
 level-blanks level polarity [] = tt

@@ -5,14 +5,14 @@ use mathlib.Core.Option.{Option, none, some}
 use Prim.Native.Nat.{ℕ, _+_, _<_, _^_}
 use Rattle.buffers.specs.Story as story
 use Rattle.buffers.specs.Kept as buffers-kept
-use Rattle.output.specs.Output.{with-place}
+use Rattle.output.specs.Output.{with-place, Packed}
 use Rattle.rules.specs.declared.Capture.{Capture}
 use Rattle.rules.specs.declared.Core.{Core}
 use Rattle.rules.specs.State.{is-open}
 use Rattle.rules.specs.Sample.{capture-sample}
-use Rattle.rules.specs.Run.{Packed}
 use Rattle.board_rules.specs.TwoBuffers as buffer-rules
-use Rattle.full_word.specs.Answers.{packing, device}
+use Rattle.output.specs.Answers.{packing}
+use Rattle.full_word.specs.Answers.{device}
 use Rattle.two_buffers.specs.declared.Kept.{Kept}
 use Rattle.two_buffers.specs.declared.Turned.{Turned}
 use Rattle.two_buffers.specs.declared.TwoLanding.{TwoLanding}

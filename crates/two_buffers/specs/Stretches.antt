@@ -6,7 +6,7 @@ use Prim.Native.Nat.{ℕ, _+_, _-_, _*_, _^_}
 use lib.Dec.{eqb, ltb, leb}
 use lib.ListN.{getD, drop}
 use Rattle.registers.specs.Control.{embedded, vspol}
-use Rattle.samples.specs.Samples.{vsync-pin}
+use Rattle.samples.specs.Samples.{vsync-pin, level-run}
 use Rattle.codes.specs.declared.Waiting.the-variants.{Zero}
 use Rattle.codes.specs.Bytes.{waiting-count}
 use Rattle.buffers.specs.declared.Buffer.{Buffer}
@@ -19,7 +19,6 @@ use Rattle.output.specs.declared.Output.{Output}
 use Rattle.rules.specs.declared.Capture.{Capture}
 use Rattle.rules.specs.declared.Core.{Core}
 use Rattle.rules.specs.State.{is-open}
-use Rattle.sampling.specs.Levels.{level-run}
 use Rattle.sampling.specs.DataBytes.{NoneBegins, data-run}
 
 -- The tags of so many held words that all go to one buffer.

@@ -10,7 +10,7 @@ ghost use Rattle.output.specs.Answers as output-answers;
 ghost use Rattle.output.specs.WellFormed.{Laid};
 ghost use Rattle.rules.specs.State.{is-open};
 ghost use Rattle.rules.specs.Sample as sample-rules;
-ghost use Rattle.rules.specs.Run.{completed};
+ghost use Rattle.output.specs.Output.{completed};
 ghost use Rattle.rules.proofs.WellFormed.{WellFormed, CaptureOk};
 ghost use Rattle.board_rules.specs.TwoBuffers as buffer-rules;
 ghost use Rattle.board_rules.proofs.WellFormed.{TurnsOk};
@@ -26,25 +26,25 @@ use crate::stretches::run_stretch;
 use crate::stretches::stretch_end;
 use buffers::Buffer;
 use buffers::Turns;
-use buffers::discarded;
-use buffers::frame_ended;
-use buffers::oldest_buffer;
-use buffers::oldest_place;
-use buffers::word_held;
-use buffers::word_landed;
-use buffers::word_lost;
+use capture::frame::is_open;
 use coded_capture::coded_sample;
-use full_word::Packing;
-use full_word::notes::noted_landing;
-use full_word::notes::noted_packing;
+use fields::control;
+use fifo::notes::noted_landing;
+use fifo::notes::noted_packing;
 use output::Landing;
+use output::Packing;
 use output::SLOTS;
-use registers::control;
 use rules::Capture;
 use rules::Core;
 use rules::Frame;
 use sampling::steps;
-use well_formed::is_open;
+use turning::discarded;
+use turning::frame_ended;
+use turning::oldest_buffer;
+use turning::oldest_place;
+use turning::word_held;
+use turning::word_landed;
+use turning::word_lost;
 
 // What is kept for two buffers, with A's next place and the number of held words.
 pub struct Kept {
@@ -114,8 +114,8 @@ fn after_landing(landing: Landing, k: Kept) -> Kept
 
 // A completed word: held, or lost.
 fn after_word(packing: Packing, k: Kept) -> Kept
-    requires { ⌜ ((v : ℕ) → word-answers.packing packing ≡ completed v → two-answers.TagsFit (two-answers.kept k)) ⌝ }
-    ensures { λ r. ⌜ two-answers.kept r ≡ buffers-kept.keeps (two-answers.kept k) (buffer-rules.word-event (word-answers.packing packing)) ⌝ }
+    requires { ⌜ ((v : ℕ) → output-answers.packing packing ≡ completed v → two-answers.TagsFit (two-answers.kept k)) ⌝ }
+    ensures { λ r. ⌜ two-answers.kept r ≡ buffers-kept.keeps (two-answers.kept k) (buffer-rules.word-event (output-answers.packing packing)) ⌝ }
 {
     match packing {
         Packing::Nothing => k,
@@ -231,8 +231,8 @@ fn after_events(
 ) -> Turned
     requires { ⌜ CaptureOk capture-answers.most-lines s ⌝ }
     requires { ⌜ oldest-at (k .«place_a») (k .turns) + 1 < 2 ^ 32 ⌝ }
-    requires { ⌜ ((v : ℕ) → word-answers.packing packing ≡ completed v → two-answers.TagsFit (buffers-kept.keeps (two-answers.kept k) (buffer-rules.landing-event (output-answers.landing landing)))) ⌝ }
-    ensures { λ r. ⌜ r ≡ two-answers.turned (buffers-kept.keeps (two-answers.kept k) (two-answers.events s w core (output-answers.landing landing) (word-answers.packing packing))) core ⌝ }
+    requires { ⌜ ((v : ℕ) → output-answers.packing packing ≡ completed v → two-answers.TagsFit (buffers-kept.keeps (two-answers.kept k) (buffer-rules.landing-event (output-answers.landing landing)))) ⌝ }
+    ensures { λ r. ⌜ r ≡ two-answers.turned (buffers-kept.keeps (two-answers.kept k) (two-answers.events s w core (output-answers.landing landing) (output-answers.packing packing))) core ⌝ }
 {
     let landed = after_landing(landing, k);
     let worded = after_word(packing, landed);

@@ -22,26 +22,26 @@ use crate::steps_in;
 use buffers::Buffer;
 use buffers::Content;
 use buffers::Turns;
-use buffers::discarded;
-use buffers::first_word;
-use buffers::oldest_buffer;
-use buffers::oldest_opens;
-use buffers::oldest_place;
-use buffers::other;
-use buffers::with_content;
-use buffers::with_tags;
-use buffers::word_lost;
+use capture::frame::is_open;
 use capture::syncs::blanks;
+use fields::control;
 use output::Counts;
 use output::Output;
 use output::SLOTS;
-use registers::control;
 use rules::Capture;
 use rules::Core;
+use samples::level_end;
 use samples::vsync_pin;
 use sampling::data_end;
-use sampling::level_end;
-use well_formed::is_open;
+use turning::discarded;
+use turning::first_word;
+use turning::oldest_buffer;
+use turning::oldest_opens;
+use turning::oldest_place;
+use turning::other;
+use turning::with_content;
+use turning::with_tags;
+use turning::word_lost;
 
 // The tags of so many held words that all go to one buffer.
 fn tags_in(u: Buffer, held: u32) -> u32
@@ -367,9 +367,9 @@ fn lasting_end(s: Capture, samples: &[u32], first: usize) -> usize
         return data_end(s, samples, first);
     }
     let frame = s.frame;
-    let w = samples[first];
-    if goes_on(blanks(vsync_pin(w), control::vspol(cr)), is_open(frame)) {
-        return level_end(samples, first);
+    let level = vsync_pin(samples[first]);
+    if goes_on(blanks(level, control::vspol(cr)), is_open(frame)) {
+        return level_end(samples, first, level);
     }
     first
 }

@@ -1,64 +1,31 @@
 // The test for malformed devices, clause by clause in the paper's order, and the clause of W9: over a device, and over a core and lent slots, for the crates that lend them.
 ghost use mathlib.Core.Path.{_≡_};
 ghost use mathlib.Core.Bool.{not};
-ghost use Prim.Native.Nat.{_+_, _*_, _/_, _^_};
+ghost use Prim.Native.Nat.{_*_, _/_, _^_};
 ghost use lib.Dec.{eqb};
-ghost use lib.ListN.{length, drop};
+ghost use lib.ListN.{length};
 ghost use Rattle.registers.specs.Control.{edm};
 ghost use Rattle.packing.specs.Packing as packing-rules;
-ghost use Rattle.output.specs.Answers as output-answers;
 ghost use Rattle.output.specs.Output.{slot-count};
-ghost use Rattle.output.specs.WellFormed as output-clauses;
 ghost use Rattle.rules.specs.State as state;
 ghost use Rattle.rules.specs.WellFormed as device-clauses;
+use capture::frame::is_open;
 use capture::frame::rate_period;
-use output::Output;
+use fields::control;
+use fields::map;
+use fifo::clauses::bad_counts;
+use fifo::clauses::bad_depth;
+use fifo::clauses::bad_fifo;
+use fifo::clauses::bad_place;
 use output::SLOTS;
 use packing::per_word;
 use packing::width;
 use registers::Register;
-use registers::control;
 use rules::Capture;
 use rules::Core;
 use rules::Device;
 use rules::Frame;
 use rules::Registers;
-
-// Whether the slots from one on are all 0. The loop does not end early, so that the compiler tests several at once.
-fn all_zero(slots: &[u32; SLOTS], from: usize) -> bool
-    requires { ⌜ length (now slots) ≡ slot-count ⌝ }
-    ensures { λ r. ⌜ r ≡ output-clauses.all-zero (drop from (now (slots .entry))) ⌝ }
-{
-    let mut zero = true;
-    let mut i = from;
-    while i < SLOTS {
-        if slots[i] != 0 {
-            zero = false;
-        }
-        i += 1;
-    }
-    zero
-}
-
-// A depth outside 1 to 32.
-pub fn bad_depth(depth: u32) -> bool
-    ensures { λ r. ⌜ r ≡ output-clauses.bad-depth depth ⌝ }
-{
-    if depth == 0 {
-        return true;
-    }
-    SLOTS < depth as usize
-}
-
-fn bad_fifo(o: Output, slots: &[u32; SLOTS]) -> bool
-    requires { ⌜ length (now slots) ≡ slot-count ⌝ }
-    ensures { λ r. ⌜ r ≡ output-clauses.bad-fifo (output-answers.left o (now (slots .entry))) ⌝ }
-{
-    if o.depth < o.held {
-        return true;
-    }
-    !all_zero(slots, o.held as usize)
-}
 
 // How many bits some data occupy.
 fn used(cr: u32, count: u32) -> u64
@@ -92,16 +59,16 @@ fn full_partial(s: Capture) -> bool
 fn excluded(r: Registers) -> bool
     ensures { λ a. ⌜ a ≡ device-clauses.excluded r ⌝ }
 {
-    if Register::Control.reserved_set(r.cr) {
+    if map::reserved_set(Register::Control, r.cr) {
         return true;
     }
-    if Register::InterruptEnable.reserved_set(r.ier) {
+    if map::reserved_set(Register::InterruptEnable, r.ier) {
         return true;
     }
-    if Register::WindowStart.reserved_set(r.cwstrt) {
+    if map::reserved_set(Register::WindowStart, r.cwstrt) {
         return true;
     }
-    if Register::WindowSize.reserved_set(r.cwsize) {
+    if map::reserved_set(Register::WindowSize, r.cwsize) {
         return true;
     }
     control::unsupported(r.cr)
@@ -114,15 +81,6 @@ fn bad_flags(r: Registers) -> bool
         return true;
     }
     31 < r.ier
-}
-
-pub fn is_open(f: Frame) -> bool
-    ensures { λ r. ⌜ r ≡ state.is-open f ⌝ }
-{
-    match f {
-        Frame::Closed => false,
-        Frame::Open(_, _) => true,
-    }
 }
 
 fn is_taken(f: Frame) -> bool
@@ -200,24 +158,6 @@ fn above_samples(d: Device) -> bool
         return true;
     }
     d.core.output.counts.samples < d.core.output.counts.completed
-}
-
-fn bad_place(o: Output) -> bool
-    ensures { λ r. ⌜ r ≡ output-clauses.bad-place o ⌝ }
-{
-    o.counts.landed < o.place
-}
-
-fn sum(landed: u32, held: u32, discarded: u32) -> u64
-    ensures { λ r. ⌜ r ≡ landed + held + discarded ⌝ }
-{
-    landed as u64 + held as u64 + discarded as u64
-}
-
-fn bad_counts(o: Output) -> bool
-    ensures { λ r. ⌜ r ≡ output-clauses.bad-counts o ⌝ }
-{
-    o.counts.completed as u64 != sum(o.counts.landed, o.held, o.counts.discarded)
 }
 
 // Whether the device of a core and lent slots is malformed.

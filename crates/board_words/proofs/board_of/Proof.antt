@@ -1,6 +1,6 @@
 -- `board_words::board_of` meets its contract. Assumes nothing.
 use borrow.Author.Needs.{needs}
-use Rattle.board_words.specs.BoardImage.{board-of}
+use Rattle.image_rules.specs.BoardImage.{board-of}
 use Rattle.board_words.proofs.board_of.Statement.{statement}
 use Rattle.board_words.proofs.board_of.Tie as tie
 

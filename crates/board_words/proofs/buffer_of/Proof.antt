@@ -1,6 +1,6 @@
 -- `board_words::buffer_of` meets its contract. Assumes nothing.
 use borrow.Author.Tests.{eq-eqb, ne-eqb}
-use Rattle.board_words.specs.BoardImage.{buffer-of}
+use Rattle.image_rules.specs.BoardImage.{buffer-of}
 use Rattle.board_words.proofs.buffer_of.Statement.{statement}
 use Rattle.board_words.proofs.buffer_of.Tie as tie
 

@@ -1,6 +1,6 @@
 -- `board_words::content_of` meets its contract. Assumes nothing.
 use borrow.Author.Tests.{eq-eqb, ne-eqb}
-use Rattle.board_words.specs.BoardImage.{content-of}
+use Rattle.image_rules.specs.BoardImage.{content-of}
 use Rattle.board_words.proofs.content_of.Statement.{statement}
 use Rattle.board_words.proofs.content_of.Tie as tie
 

@@ -3,8 +3,8 @@ use borrow.Author.Needs.{needs}
 use mathlib.Core.Path.{_≡_}
 use native.Mathlib.Omega.{arith}
 use lib.ListN.{length, take, replicate, length-take}
-use Rattle.device_words.specs.Image.{image-words}
-use Rattle.device_words.proofs.Inverse.{put-whole}
+use Rattle.image_rules.specs.Image.{image-words}
+use Rattle.image_rules.proofs.Inverse.{put-whole}
 use Rattle.board_words.proofs.device_part.Statement.{statement}
 use Rattle.board_words.proofs.device_part.Tie as tie
 

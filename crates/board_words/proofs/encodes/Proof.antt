@@ -1,6 +1,6 @@
 -- `board_words::encodes` meets its contract. Assumes nothing.
 use borrow.Author.Needs.{needs}
-use Rattle.board_words.specs.BoardImage.{encodes}
+use Rattle.image_rules.specs.BoardImage.{encodes}
 use Rattle.board_words.proofs.encodes.Statement.{statement}
 use Rattle.board_words.proofs.encodes.Tie as tie
 

@@ -2,9 +2,9 @@
 use borrow.Author.Needs.{needs}
 use native.Mathlib.Omega.{arith}
 use lib.ListN.{replicate}
-use Rattle.device_words.specs.Image.{image-words}
-use Rattle.board_words.specs.BoardImage.{image-of}
-use Rattle.board_words.proofs.BoardInverse.{put-both}
+use Rattle.image_rules.specs.Image.{image-words}
+use Rattle.image_rules.specs.BoardImage.{image-of}
+use Rattle.image_rules.proofs.BoardInverse.{put-both}
 use Rattle.board_words.proofs.image_of.Statement.{statement}
 use Rattle.board_words.proofs.image_of.Tie as tie
 

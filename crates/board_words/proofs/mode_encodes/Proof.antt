@@ -2,7 +2,7 @@
 use borrow.Author.Needs.{needs}
 use borrow.Author.Tests.{eq-eqb, ne-eqb}
 use lib.Seq.{getD-drop}
-use Rattle.board_words.specs.BoardImage.{mode-encodes}
+use Rattle.image_rules.specs.BoardImage.{mode-encodes}
 use Rattle.board_words.proofs.mode_encodes.Statement.{statement}
 use Rattle.board_words.proofs.mode_encodes.Tie as tie
 

@@ -3,8 +3,8 @@ use borrow.Author.Needs.{needs}
 use borrow.Author.Tests.{eq-eqb, ne-eqb}
 use Prim.Native.Nat.{ℕ}
 use lib.Seq.{getD-drop}
-use Rattle.device_words.specs.Image.{image-words}
-use Rattle.board_words.specs.BoardImage.{mode-of}
+use Rattle.image_rules.specs.Image.{image-words}
+use Rattle.image_rules.specs.BoardImage.{mode-of}
 use Rattle.board_words.proofs.mode_of.Statement.{statement}
 use Rattle.board_words.proofs.mode_of.Tie as tie
 

@@ -1,6 +1,6 @@
 -- `board_words::turns_encode` meets its contract. Assumes nothing.
 use borrow.Author.Tests.{le-leb, lt-leb}
-use Rattle.board_words.specs.BoardImage.{turns-encode}
+use Rattle.image_rules.specs.BoardImage.{turns-encode}
 use Rattle.board_words.proofs.turns_encode.Statement.{statement}
 use Rattle.board_words.proofs.turns_encode.Tie as tie
 

@@ -1,6 +1,6 @@
 -- `board_words::zeros_encode` meets its contract. Assumes nothing.
 use borrow.Author.Tests.{eq-eqb, ne-eqb}
-use Rattle.board_words.specs.BoardImage.{zeros-encode}
+use Rattle.image_rules.specs.BoardImage.{zeros-encode}
 use Rattle.board_words.proofs.zeros_encode.Statement.{statement}
 use Rattle.board_words.proofs.zeros_encode.Tie as tie
 

@@ -1,8 +1,7 @@
 -- `capture::pads` meets its contract. Assumes nothing.
 use mathlib.Core.Path.{sym, _∙_}
 use borrow.Author.Needs.{needs}
-use Rattle.rules.specs.Capture.{frame-pads}
-use Rattle.laws.specs.Padding.{padded-at}
+use Rattle.rules.specs.Capture.{frame-pads, padded-at}
 use Rattle.capture.proofs.pads.Statement.{statement}
 use Rattle.capture.proofs.pads.Tie as tie
 

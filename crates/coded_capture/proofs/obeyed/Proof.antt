@@ -9,12 +9,12 @@ use Rattle.coded_capture.proofs.obeyed.Tie as tie
 returns : tie.Need-returns
 unfolding obeyed
 returns c =
-    rw (c .before .before .before .enum-told .given .1, ← c .before .before .in-frame .ensures, c .before .if1 .taken) (c .closes .ensures)
+    rw (c .before .before .before .enum-told .given .1, ← c .before .before .is-open .ensures, c .before .if1 .taken) (c .closes .ensures)
 
 returns-2 : tie.Need-returns-2
 unfolding obeyed
 returns-2 c =
-    rw (c .before .before .before .enum-told2 .given .1, ← c .before .before .in-frame2 .ensures, c .before .if2 .taken) (c .errs .ensures)
+    rw (c .before .before .before .enum-told2 .given .1, ← c .before .before .is-open2 .ensures, c .before .if2 .taken) (c .errs .ensures)
 
 frame-opens-requires : tie.Need-frame-opens-requires
 frame-opens-requires c κs =
@@ -32,12 +32,12 @@ line-start-requires c κs =
 returns-4 : tie.Need-returns-4
 unfolding obeyed
 returns-4 c =
-    rw (c .before .before .before .enum-told .given .1, ← c .before .before .in-frame .ensures, c .before .if1 .left) (c .silent .ensures)
+    rw (c .before .before .before .enum-told .given .1, ← c .before .before .is-open .ensures, c .before .if1 .left) (c .silent .ensures)
 
 returns-5 : tie.Need-returns-5
 unfolding obeyed
 returns-5 c =
-    rw (c .before .before .before .before .enum-told2 .given .1, ← c .before .before .before .in-frame2 .ensures, c .before .before .if2 .left, ← c .before .frame-opens .ensures)
+    rw (c .before .before .before .before .enum-told2 .given .1, ← c .before .before .before .is-open2 .ensures, c .before .before .if2 .left, ← c .before .frame-opens .ensures)
     (c .silent2 .ensures)
 
 returns-6 : tie.Need-returns-6

@@ -1,19 +1,7 @@
 -- `dcmi::dcmi_write` meets its contract. Assumes nothing.
 use borrow.Author.Needs.{needs}
-use mathlib.Core.Path.{ap, _∙_}
-use Rattle.board_rules.specs.Answers.{Changed}
-use Rattle.dcmi.specs.Calls.{changed}
-use Rattle.dcmi.specs.Calls.{write}
 use Rattle.dcmi.proofs.dcmi_write.Statement.{statement}
 use Rattle.dcmi.proofs.dcmi_write.Tie as tie
 
-returns : tie.Need-returns
-unfolding write
-returns c = c .store .ensures ∙ ap (λ (x : Changed). changed (c .before .before .before .before .before .before .before .args .image .now) x) (c .before .before .write .ensures) ∙ rw (c .before .before .before .board-of .ensures, ← c .before .before .before .before .before .encodes .ensures, c .before .before .before .before .if1 .taken)
-
-returns-2 : tie.Need-returns-2
-unfolding write
-returns-2 c = rw (← c .before .encodes .ensures, c .if1 .left)
-
 pub dcmi-write-spec : {M : Type 1} → statement M
-dcmi-write-spec = tie.close (tie.spec (λ c κs. search needs) (λ c κs. search needs) (λ c κs. search needs) (λ c κs. search needs) returns returns-2)
+dcmi-write-spec = tie.close (tie.spec (λ c κs. search needs) (λ c. c .write .ensures))

@@ -4,8 +4,8 @@ use mathlib.Core.Path.{_≡_}
 use native.Mathlib.Omega.{arith}
 use lib.ListN.{length, take, drop, replicate, length-take, length-drop}
 use Rattle.output.specs.Output.{slot-count}
-use Rattle.device_words.specs.Image.{slot, device-of}
-use Rattle.device_words.proofs.Inverse.{put-whole}
+use Rattle.image_rules.specs.Image.{slot, device-of}
+use Rattle.image_rules.proofs.Inverse.{put-whole}
 use Rattle.device_words.proofs.device_of.Statement.{statement}
 use Rattle.device_words.proofs.device_of.Tie as tie
 

@@ -2,7 +2,7 @@
 use borrow.Author.Needs.{needs}
 use Prim.Native.Nat.{ℕ}
 use lib.Seq.{getD-drop}
-use Rattle.device_words.specs.Image.{behind, encodes}
+use Rattle.image_rules.specs.Image.{behind, encodes}
 use Rattle.device_words.proofs.encodes.Statement.{statement}
 use Rattle.device_words.proofs.encodes.Tie as tie
 

@@ -1,6 +1,6 @@
 -- `device_words::flags_encode` meets its contract. Assumes nothing.
 use borrow.Author.Tests.{le-leb, lt-leb}
-use Rattle.device_words.specs.Image.{flags-encode}
+use Rattle.image_rules.specs.Image.{flags-encode}
 use Rattle.device_words.proofs.flags_encode.Statement.{statement}
 use Rattle.device_words.proofs.flags_encode.Tie as tie
 

@@ -1,6 +1,6 @@
 -- `device_words::frame_encodes` meets its contract. Assumes nothing.
 use borrow.Author.Tests.{le-leb, lt-leb, eq-eqb, ne-eqb}
-use Rattle.device_words.specs.Image.{frame-encodes}
+use Rattle.image_rules.specs.Image.{frame-encodes}
 use Rattle.device_words.proofs.frame_encodes.Statement.{statement}
 use Rattle.device_words.proofs.frame_encodes.Tie as tie
 

@@ -1,6 +1,6 @@
 -- `device_words::frame_of` meets its contract. Assumes nothing.
 use borrow.Author.Tests.{eq-eqb, ne-eqb}
-use Rattle.device_words.specs.Image.{frame-of}
+use Rattle.image_rules.specs.Image.{frame-of}
 use Rattle.device_words.proofs.frame_of.Statement.{statement}
 use Rattle.device_words.proofs.frame_of.Tie as tie
 

@@ -5,7 +5,7 @@ use native.Mathlib.Omega.{arith}
 use lib.ListN.{length, length-map}
 use lib.Seq.{take-all}
 use Rattle.output.specs.Output.{slot-count}
-use Rattle.device_words.specs.Image.{image-of}
+use Rattle.image_rules.specs.Image.{image-of}
 use Rattle.device_words.proofs.image_of.Statement.{statement}
 use Rattle.device_words.proofs.image_of.Tie as tie
 

@@ -1,6 +1,6 @@
 -- `device_words::waiting_of` meets its contract. Assumes nothing.
 use borrow.Author.Tests.{eq-eqb, ne-eqb}
-use Rattle.device_words.specs.Image.{waiting-of}
+use Rattle.image_rules.specs.Image.{waiting-of}
 use Rattle.device_words.proofs.waiting_of.Statement.{statement}
 use Rattle.device_words.proofs.waiting_of.Tie as tie
 

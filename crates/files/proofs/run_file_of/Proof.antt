@@ -4,7 +4,7 @@ use mathlib.Core.Path.{sym, ap, _∙_}
 use Rattle.refusals.proofs.Numbered.{never-zero}
 use Rattle.refusals.specs.Table.{outcome}
 use Rattle.rules.specs.Answers.{Changed}
-use Rattle.file_rules.specs.File.{run-file-of}
+use Rattle.file_rules.specs.File.{run-on, run-file-of}
 use Rattle.file_rules.proofs.SettingUp.{made-ready}
 use Rattle.files.proofs.run_file_of.Statement.{statement}
 use Rattle.files.proofs.run_file_of.Tie as tie
@@ -15,7 +15,7 @@ run-on-requires c κs =
     rw (ap (λ (r : Changed). r .device) e) (made-ready _ (rw (← e, c .before .enum-told .given .1)))
 
 returns : tie.Need-returns
-unfolding run-file-of
+unfolding run-file-of run-on
 returns c =
     rw (
       c .before .before .run-on .ensures,
@@ -30,6 +30,7 @@ returns-2 c =
       c .refused .ensures,
       ← c .before .before .before .before .before .made .ensures,
       c .before .before .outcome .given .1,
+      never-zero (c .before .before .outcome .given .0 .0),
       never-zero (c .before .before .outcome .given .0 .0),
     )
 

@@ -11,13 +11,7 @@ run-content-requires : tie.Need-run-content-requires
 run-content-requires c κs = (c .before .before .before .before .before .before .pre, sym (c .before .before .before .check-form .ensures) ∙ ap outcome (c .before .enum-told .given .1))
 
 returns : tie.Need-returns
-unfolding run-on
-returns c =
-    rw (
-      c .before .before .run-content .ensures,
-      ← c .before .before .before .before .before .before .check-form .ensures,
-      c .before .before .before .before .enum-told .given .1,
-    )
+returns c = c .before .before .run-content .ensures
 
 returns-2 : tie.Need-returns-2
 unfolding run-on
@@ -26,6 +20,7 @@ returns-2 c =
       c .refused .ensures,
       ← c .before .before .before .before .check-form .ensures,
       c .before .before .form .given .1,
+      never-zero (c .before .before .form .given .0 .0),
       never-zero (c .before .before .form .given .0 .0),
     )
 

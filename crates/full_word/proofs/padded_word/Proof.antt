@@ -1,10 +1,9 @@
 -- `full_word::padded_word` meets its contract. Assumes nothing.
 use borrow.Author.Needs.{needs}
 use mathlib.Core.Path.{sym, ap, _∙_}
-use Rattle.output.specs.Answers.{left}
+use Rattle.output.specs.Answers.{left, packing}
 use Rattle.output.specs.Output.{offer}
 use Rattle.rules.specs.Run.{Completed, complete}
-use Rattle.full_word.specs.Answers.{packing}
 use Rattle.full_word.proofs.Fates.{held-flagged, lost-same, not-nothing}
 use Rattle.full_word.proofs.padded_word.Statement.{statement}
 use Rattle.full_word.proofs.padded_word.Tie as tie

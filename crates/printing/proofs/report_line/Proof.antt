@@ -79,14 +79,14 @@ cast-landed c = search needs
 sub-if6 : tie.Need-sub-if6
 sub-if6 c = search needs
 
-sub-word-at : tie.Need-sub-word-at
-sub-word-at c = search needs
+sub-four : tie.Need-sub-four
+sub-four c = search needs
 
-mul-word-at : tie.Need-mul-word-at
-mul-word-at c = search needs
+mul-four : tie.Need-mul-four
+mul-four c = search needs
 
-word-at-requires : tie.Need-word-at-requires
-word-at-requires c κs = search needs
+four-requires : tie.Need-four-requires
+four-requires c κs = search needs
 
 word-line-requires : tie.Need-word-line-requires
 word-line-requires c κs = search needs
@@ -97,7 +97,7 @@ same-length-6 c = search needs
 returns-6 : tie.Need-returns-6
 returns-6 c =
     let high : 5 ≤ c .before .before .before .before .before .before .before .before .before .before .before .before .before .before .args .k = omega (arith, c .before .before .before .before .before .before .before .if5 .left, c .before .before .before .before .before .before .before .before .if4 .left, c .before .before .before .before .before .before .before .before .before .if3 .left, c .before .before .before .before .before .before .before .before .before .before .if2 .left, c .before .before .before .before .before .before .before .before .before .before .before .if1 .left) in
-    c .before .before .word-line .ensures ∙ rw (c .before .before .before .before .word-at .ensures, word-at-line (c .before .before .before .before .before .before .before .before .before .before .before .before .before .before .args .d) (now (c .before .before .before .before .before .before .before .before .before .before .before .before .before .before .args .memory)) (c .before .before .before .before .before .before .before .before .before .before .before .before .before .before .args .k) high (c .before .before .before .before .before .if6 .taken))
+    c .before .before .word-line .ensures ∙ rw (c .before .before .before .before .four .ensures, word-at-line (c .before .before .before .before .before .before .before .before .before .before .before .before .before .before .args .d) (now (c .before .before .before .before .before .before .before .before .before .before .before .before .before .before .args .memory)) (c .before .before .before .before .before .before .before .before .before .before .before .before .before .before .args .k) high (c .before .before .before .before .before .if6 .taken))
 
 returns-7 : tie.Need-returns-7
 returns-7 c =
@@ -129,9 +129,9 @@ report-line-spec =
     returns-5
     cast-landed
     sub-if6
-    sub-word-at
-    mul-word-at
-    word-at-requires
+    sub-four
+    mul-four
+    four-requires
     word-line-requires
     same-length-6
     returns-6

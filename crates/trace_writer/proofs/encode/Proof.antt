@@ -7,7 +7,7 @@ use Prim.Native.Nat.{_+_, _*_}
 use Rattle.trace_format.specs.Format.{write-size, sample-size, encode}
 use Rattle.trace_writer.specs.Writing.{write, writer-refusal, given}
 use Rattle.trace_writer.proofs.Filling.{length-given}
-use Rattle.trace_format.proofs.Putting.{put-over}
+use Rattle.numbers.proofs.Putting.{put-over}
 use Rattle.trace_format.proofs.ReadBack.{length-encode}
 use Rattle.trace_writer.proofs.encode.Statement.{statement}
 use Rattle.trace_writer.proofs.encode.Tie as tie

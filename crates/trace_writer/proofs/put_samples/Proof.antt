@@ -3,8 +3,9 @@ use Prim.Native.Nat.{_+_, _-_, _*_}
 use lib.ListN.{length, drop}
 use lib.Seq.{sets}
 use native.Mathlib.Omega.{arith}
+use Rattle.numbers.proofs.Putting.{Filling, kept, filled}
 use Rattle.trace_format.specs.Format.{sample-size, sample-bytes}
-use Rattle.trace_writer.proofs.Filling.{Filling, kept, filled, samples-start, sample-room, sample-on, no-samples}
+use Rattle.trace_writer.proofs.Filling.{samples-start, sample-room, sample-on, no-samples}
 use Rattle.trace_writer.proofs.put_samples.Statement.{statement}
 use Rattle.trace_writer.proofs.put_samples.Tie as tie
 

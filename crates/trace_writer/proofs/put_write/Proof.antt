@@ -1,8 +1,8 @@
 -- `trace_writer::put_write` meets its contract.
 use borrow.Author.Needs.{needs}
-use Rattle.trace_format.specs.Format.{little}
-use Rattle.trace_format.proofs.Putting.{sets-append}
-use Rattle.trace_format.proofs.Numbers.{length-little}
+use Rattle.numbers.specs.Numbers.{little}
+use Rattle.numbers.proofs.Putting.{sets-append}
+use Rattle.numbers.proofs.Numbers.{length-little}
 use Rattle.trace_writer.proofs.put_write.Statement.{statement}
 use Rattle.trace_writer.proofs.put_write.Tie as tie
 

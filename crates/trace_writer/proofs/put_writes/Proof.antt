@@ -2,9 +2,10 @@
 use Prim.Native.Nat.{_+_, _-_, _*_}
 use lib.Seq.{sets}
 use native.Mathlib.Omega.{arith}
+use Rattle.numbers.proofs.Putting.{Filling, kept, filled}
 use Rattle.trace_format.specs.Format.{write-size, write-bytes}
 use Rattle.trace_writer.specs.Writing.{given, given-from}
-use Rattle.trace_writer.proofs.Filling.{Filling, kept, filled, writes-start, write-room, write-on, no-writes}
+use Rattle.trace_writer.proofs.Filling.{writes-start, write-room, write-on, no-writes}
 use Rattle.trace_writer.proofs.put_writes.Statement.{statement}
 use Rattle.trace_writer.proofs.put_writes.Tie as tie
 

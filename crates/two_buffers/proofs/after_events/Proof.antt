@@ -2,8 +2,7 @@
 use borrow.Author.Needs.{needs}
 use mathlib.Core.Path.{ap}
 use Rattle.buffers.specs.Kept.{Kept}
-use Rattle.full_word.specs.Answers.{packing}
-use Rattle.output.specs.Answers.{landing}
+use Rattle.output.specs.Answers.{packing, landing}
 use Rattle.two_buffers.specs.Answers.{kept, turned}
 use Rattle.two_buffers.proofs.Closing.{events-in-turn}
 use Rattle.two_buffers.proofs.after_events.Statement.{statement}

@@ -3,7 +3,7 @@ use borrow.Author.Needs.{needs}
 use mathlib.Core.Path.{ap}
 use native.Mathlib.Omega.{arith}
 use Rattle.buffers.specs.Kept.{keep, keeps}
-use Rattle.full_word.specs.Answers.{packing}
+use Rattle.output.specs.Answers.{packing}
 use Rattle.two_buffers.proofs.after_word.Statement.{statement}
 use Rattle.two_buffers.proofs.after_word.Tie as tie
 

@@ -2,11 +2,10 @@
 use borrow.Author.Needs.{needs}
 use mathlib.Core.Path.{_≡_, sym, ap, _∙_}
 use native.Mathlib.Omega.{arith}
-use Rattle.output.specs.Answers.{landing}
+use Rattle.output.specs.Answers.{landing, packing}
 use Rattle.output.specs.Output.{with-place}
 use Rattle.rules.specs.Run.{Stepped}
 use Rattle.board_rules.specs.TwoBuffers.{Pair, part}
-use Rattle.full_word.specs.Answers.{packing}
 use Rattle.sampling.specs.Answers.{noted}
 use Rattle.sampling.proofs.Ready.{more-lines}
 use Rattle.two_buffers.specs.Answers.{placed, turned, pair, two}

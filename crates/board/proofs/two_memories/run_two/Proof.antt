@@ -3,7 +3,7 @@ use borrow.Author.Needs.{needs}
 use mathlib.Core.Path.{sym, ap, _∙_}
 use Rattle.refusals.proofs.Numbered.{never-zero}
 use Rattle.refusals.specs.Table.{outcome}
-use Rattle.sampling.proofs.AcceptedRuns.{tail-part, put-tail}
+use Rattle.fifo.proofs.Tail.{tail-part, put-tail}
 use Rattle.board.specs.Answers.{both}
 use Rattle.board.proofs.TwoMemories.{refusal-by, Passed, passes, run-refused, run-in-one, run-accepted}
 use Rattle.board.proofs.two_memories.run_two.Statement.{statement}

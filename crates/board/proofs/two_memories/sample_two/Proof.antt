@@ -5,7 +5,7 @@ use mathlib.Core.Path.{sym, ap, _∙_}
 use Rattle.refusals.proofs.Numbered.{never-zero}
 use Rattle.refusals.specs.Table.{outcome}
 use Rattle.board_rules.specs.TwoBuffers.{TwoStepped}
-use Rattle.sampling.proofs.AcceptedRuns.{tail-part, put-tail}
+use Rattle.fifo.proofs.Tail.{tail-part, put-tail}
 use Rattle.board.specs.Answers.{both}
 use Rattle.board.proofs.TwoLandings.{landing-fits}
 use Rattle.board.proofs.TwoMemories.{refusal-by, Passed, passes, sample-refused, sample-in-one, sample-accepted}

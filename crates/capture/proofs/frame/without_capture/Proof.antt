@@ -4,7 +4,7 @@ use borrow.Author.Needs.{needs}
 use borrow.Author.Tests.{eqb-true}
 use mathlib.Core.Path.{sym, _∙_}
 use native.Mathlib.Omega.{arith}
-use Rattle.rules.specs.State.{lowered}
+use Rattle.bits.specs.Bits.{lowered}
 use Rattle.capture.proofs.frame.without_capture.Statement.{statement}
 use Rattle.capture.proofs.frame.without_capture.Tie as tie
 

@@ -1,6 +1,7 @@
 -- `capture::syncs::raise_line` meets its contract. Assumes nothing.
 use borrow.Author.Needs.{needs}
-use Rattle.rules.specs.State.{raised, with-ris, with-registers, raise}
+use Rattle.bits.specs.Bits.{raised}
+use Rattle.rules.specs.State.{with-ris, with-registers, raise}
 use Rattle.capture.proofs.syncs.raise_line.Statement.{statement}
 use Rattle.capture.proofs.syncs.raise_line.Tie as tie
 

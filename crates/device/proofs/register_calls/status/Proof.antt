@@ -2,7 +2,7 @@
 use borrow.Author.Needs.{needs}
 use lib.Dec.{ltb}
 use native.Mathlib.Omega.{arith}
-use Rattle.rules.proofs.Booleans.{cond-le}
+use Rattle.bits.proofs.Booleans.{cond-le}
 use Rattle.rules.specs.RegisterCalls.{status}
 use Rattle.device.proofs.register_calls.status.Statement.{statement}
 use Rattle.device.proofs.register_calls.status.Tie as tie

@@ -4,7 +4,8 @@ use mathlib.Core.Path.{sym, ap, _∙_}
 use Rattle.refusals.proofs.Numbered.{never-zero}
 use Rattle.refusals.specs.Table.{outcome}
 use Rattle.rules.specs.Run.{run}
-use Rattle.sampling.proofs.AcceptedRuns.{AcceptedRun, accepted-run, tail-part, put-tail}
+use Rattle.fifo.proofs.Tail.{tail-part, put-tail}
+use Rattle.sampling.proofs.AcceptedRuns.{AcceptedRun, accepted-run}
 use Rattle.device.proofs.runs.run.Statement.{statement}
 use Rattle.device.proofs.runs.run.Tie as tie
 

@@ -1,8 +1,7 @@
 -- `sampling::jpeg::padded_step` meets its contract. Assumes nothing.
 use borrow.Author.Needs.{needs}
 use native.Mathlib.Omega.{arith}
-use Rattle.output.specs.Output.{with-counts, count-sample}
-use Rattle.rules.specs.Run.{counted}
+use Rattle.output.specs.Output.{with-counts, count-sample, counted}
 use Rattle.full_word.specs.Answers.{device}
 use Rattle.sampling.proofs.Ready.{more-lines, asks-grant, asks-word, ended-fits, stepped-padded}
 use Rattle.sampling.proofs.jpeg.padded_step.Statement.{statement}

@@ -2,7 +2,7 @@
 use mathlib.Core.Path.{sym, _∙_}
 use borrow.Author.Needs.{needs}
 use native.Mathlib.Omega.{arith}
-use Rattle.sampling.specs.Levels.{stretch}
+use Rattle.sampling.specs.Unpadded.{stretch}
 use Rattle.sampling.proofs.jpeg.stretch.Statement.{statement}
 use Rattle.sampling.proofs.jpeg.stretch.Tie as tie
 
@@ -16,12 +16,9 @@ returns : tie.Need-returns
 unfolding stretch
 returns c = rw (sym (c .before .may-pad .ensures) ∙ c .if1 .taken)
 
-level-end-requires : tie.Need-level-end-requires
-level-end-requires c κs = c .before .before .before .before .pre
-
 returns-2 : tie.Need-returns-2
 unfolding stretch
-returns-2 c = rw (sym (c .before .before .may-pad .ensures) ∙ c .before .if1 .left) (c .level-end .ensures)
+returns-2 c = rw (sym (c .before .before .before .may-pad .ensures) ∙ c .before .before .if1 .left, ← c .before .vsync-pin .ensures) (c .level-end .ensures)
 
 pub stretch-spec : {M : Type 1} → statement M
 stretch-spec =
@@ -32,5 +29,6 @@ stretch-spec =
     (λ c κs. search needs)
     add-result
     returns
-    level-end-requires
+    (λ c κs. search needs)
+    (λ c κs. search needs)
     returns-2)

@@ -8,7 +8,8 @@ use Rattle.refusals.proofs.Numbered.{never-zero}
 use Rattle.refusals.specs.Table.{outcome}
 use Rattle.rules.specs.Run.{Stepped, sample}
 use Rattle.full_word.specs.Answers.{device}
-use Rattle.sampling.proofs.AcceptedRuns.{AcceptedRun, accepted-run, refusal-by, tail-part, put-tail, landing-within}
+use Rattle.fifo.proofs.Tail.{tail-part, put-tail}
+use Rattle.sampling.proofs.AcceptedRuns.{AcceptedRun, accepted-run, refusal-by, landing-within}
 use Rattle.sampling.proofs.Noted.{one-sample, accepted-sample}
 use Rattle.sampling.proofs.Ready.{ready}
 use Rattle.sampling.proofs.single.sample_core.Statement.{statement}

@@ -2,7 +2,7 @@
 use borrow.Author.Needs.{needs}
 use borrow.Author.Tests.{eq-eqb, ne-eqb}
 use denote.Ref.{now}
-use Rattle.trace_format.proofs.Fields.{mark-bytes}
+use Rattle.trace_format.proofs.Form.{mark-bytes}
 use Rattle.trace.proofs.form.marked.Statement.{statement}
 use Rattle.trace.proofs.form.marked.Tie as tie
 

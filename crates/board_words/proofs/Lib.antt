@@ -1,2 +1,0 @@
-pub mod BoardInverse
-pub mod BoardImageSheet

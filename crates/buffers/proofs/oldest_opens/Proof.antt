@@ -1,9 +1,0 @@
--- `buffers::oldest_opens` meets its contract. Assumes nothing.
-use native.Mathlib.Nat.{div-one}
-use Rattle.buffers.specs.Turns.{oldest-opens}
-use Rattle.buffers.proofs.oldest_opens.Statement.{statement}
-use Rattle.buffers.proofs.oldest_opens.Tie as tie
-
-pub oldest-opens-spec : {M : Type 1} → statement M
-unfolding oldest-opens
-oldest-opens-spec = tie.close (tie.spec (λ c. rw div-one))

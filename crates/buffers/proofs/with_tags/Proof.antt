@@ -1,9 +1,0 @@
--- `buffers::with_tags` meets its contract. Assumes nothing.
-use mathlib.Core.Path.{refl}
-use Rattle.buffers.specs.Turns.{with-tags}
-use Rattle.buffers.proofs.with_tags.Statement.{statement}
-use Rattle.buffers.proofs.with_tags.Tie as tie
-
-pub with-tags-spec : {M : Type 1} → statement M
-unfolding with-tags
-with-tags-spec = tie.close (tie.spec (λ c. refl))

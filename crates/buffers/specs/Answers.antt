@@ -1,9 +1,0 @@
--- What the code answers, as a value of specs/.
-use mathlib.Core.Option.{Option, none, some}
-use Rattle.buffers.specs.declared.Buffer.{Buffer}
-use Rattle.buffers.specs.declared.Latest.{Latest}
-use Rattle.buffers.specs.declared.Latest.the-variants.{Nothing, In}
-
-abbrev pub latest : Latest → Option Buffer
-latest Nothing = none
-latest (In u) = some u

@@ -1,0 +1,4 @@
+pub mod Inverse
+pub mod ImageSheet
+pub mod BoardInverse
+pub mod BoardImageSheet

@@ -1,0 +1,4 @@
+pub mod Numbers
+pub mod NumberAt
+pub mod Putting
+pub mod NumbersSheet

@@ -1,9 +1,0 @@
--- `output::no_landing` meets its contract. Assumes nothing.
-use mathlib.Core.Path.{refl}
-use Rattle.output.specs.Output.{no-landing}
-use Rattle.output.proofs.no_landing.Statement.{statement}
-use Rattle.output.proofs.no_landing.Tie as tie
-
-pub no-landing-spec : {M : Type 1} → statement M
-unfolding no-landing
-no-landing-spec = tie.close (tie.spec (λ c slots buffer. refl))

@@ -1,9 +1,0 @@
--- `well_formed::bad_depth` meets its contract. Assumes nothing.
-use borrow.Author.Tests.{eq-eqb, ne-eqb}
-use Rattle.output.specs.WellFormed.{bad-depth}
-use Rattle.well_formed.proofs.bad_depth.Statement.{statement}
-use Rattle.well_formed.proofs.bad_depth.Tie as tie
-
-pub bad-depth-spec : {M : Type 1} → statement M
-unfolding bad-depth
-bad-depth-spec = tie.close (tie.spec (λ c. rw (eq-eqb _ _ (c .if1 .taken))) (λ c. rw (ne-eqb _ _ (c .if1 .left))))
