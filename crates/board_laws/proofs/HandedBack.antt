@@ -2,7 +2,7 @@
 -- complete the latest is handed back, and the part is the bytes of the words that it completed, in order (`handed-is-frame`).
 -- The idea: held words and frame buffers are as the history's frames tell (CallsHold); a complete frame's words have all landed, so that all of them stand there. Assumes nothing.
 use mathlib.Core.Bool.{Bool, true, false, cond, false≢true}
-use mathlib.Core.List.{List, [], _∷_}
+use mathlib.Core.List.{List, []}
 use mathlib.Core.Option.{Option, none, some}
 use mathlib.Core.Path.{_≡_, refl, ap, sym, _∙_, subst}
 use Prim.Native.Nat.{ℕ, _-_, _*_, _≤_}

@@ -5,7 +5,7 @@ use mathlib.Core.List.{List, [], _∷_, _++_}
 use mathlib.Core.Option.{none, some}
 use mathlib.Core.Path.{_≡_, refl}
 use native.Mathlib.Omega.{arith}
-use Rattle.buffers.specs.declared.Buffer.the-variants.{A, B}
+use Rattle.buffers.specs.declared.Buffer.the-variants.{B}
 use Rattle.buffers.specs.Story as story
 use Rattle.buffers.specs.Story.{Tale, latest-in}
 use Rattle.rules.proofs.BenchSheet.{CR, edges, blank}

@@ -82,13 +82,6 @@ nothing-lost-after k (x ∷ xs) =
     )
     (append-assoc (waiting-bytes k) (x ∷ []) xs)
 
--- Some bytes, and then others.
-pub by-bytes-append : (k : Waiting) (xs ys : List ℕ) → by-bytes k (xs ++ ys) ≡ in-front (by-bytes k xs .pieces) (by-bytes (by-bytes k xs .waits) ys)
-unfolding by-bytes
-by-bytes-append k [] ys = refl
-by-bytes-append k (x ∷ xs) ys =
-    rw (by-bytes-append (waiting-after k x) xs ys, append-assoc (pieces-of k x) (by-bytes (waiting-after k x) xs .pieces) (by-bytes (by-bytes (waiting-after k x) xs .waits) ys .pieces))
-
 -- A first byte that begins no code, and two or three that begin none.
 not-one : (a : ℕ) (bs : List ℕ) → eqb a 0xFF ≡ false → cut (a ∷ bs) ≡ in-front (a-datum a ∷ []) (cut bs)
 unfolding cut

@@ -10,7 +10,7 @@ use Rattle.rules.specs.declared.Device.{Device}
 use Rattle.rules.specs.RegisterCalls.{write}
 use Rattle.rules.specs.Run.{run}
 use Rattle.trace_format.specs.Format.{header-length, write-size, sample-size, write-start}
-use Rattle.trace_format.specs.Reading.{version-of, write-count, sample-count, sample-start, whole, header-refusal}
+use Rattle.trace_format.specs.Reading.{version-of, write-count, sample-count, sample-start, header-refusal}
 use Rattle.file_rules.specs.Parts.{Taken, no-item, after-write, after-sample, write-byte, sample-byte, take-byte, take-bytes}
 use Rattle.file_rules.proofs.Taking.{at, write-step, sample-step}
 

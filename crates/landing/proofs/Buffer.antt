@@ -7,7 +7,7 @@ use native.Mathlib.Omega.{arith}
 use lib.ListN.{length, drop, length-append, length-drop}
 use lib.Seq.{take-at, drop-at, drop-drop}
 use borrow.Author.Tests.{le-leb}
-use Rattle.output.specs.Output.{bytes, all-bytes, room, stored}
+use Rattle.output.specs.Output.{all-bytes, room, stored}
 use Rattle.output.proofs.Bytes.{all-bytes-length, all-bytes-last}
 
 -- The frame buffer with some words landed, first lent as `buffer`.

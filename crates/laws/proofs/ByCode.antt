@@ -1,5 +1,5 @@
 -- What holds of the few things that a code can do holds of what it does (`by-code`); and of a sample, of its three ways (`by-sample`). Assumes nothing.
-use mathlib.Core.Bool.{Bool, true, false, not, _&&_, true≢false}
+use mathlib.Core.Bool.{Bool, false, not, _&&_, true≢false}
 use mathlib.Core.Path.{_≡_, refl}
 use Prim.Native.Nat.{ℕ}
 use borrow.Author.Tests.{not-true}

@@ -1,6 +1,6 @@
 -- What rules 3 to 8 make of the capture state by codes (W6): a well-formed one stays so, with one more allowed in the bound on lines and pixels; CR stays but for CAPTURE, the
 -- pins and OVR stay, and ERR does unless it is said to rise (`Left`). Assumes nothing.
-use mathlib.Core.Bool.{Bool, true, false, not, true≢false}
+use mathlib.Core.Bool.{Bool, true, false, true≢false}
 use mathlib.Core.List.{List, [], _∷_}
 use mathlib.Core.Option.{Option, none, some}
 use mathlib.Core.Path.{_≡_, refl, sym, _∙_}

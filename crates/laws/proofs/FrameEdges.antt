@@ -1,6 +1,6 @@
 -- A working edge keeps the history of the open frame told (`Told`): whether the window's last line has ended, and how often FRAME was due (request W1).
 -- The idea: rule 3 changes RIS alone; what is left goes by whether a frame is open and which syncs blank. Assumes nothing.
-use mathlib.Core.Bool.{Bool, true, false, cond, not, _&&_, _||_}
+use mathlib.Core.Bool.{Bool, true, false, cond, not, _&&_}
 use mathlib.Core.Path.{_≡_, refl, ap, _∙_}
 use Prim.Native.Nat.{ℕ, _+_, _≤_, _<_}
 use native.Mathlib.Omega.{arith}

@@ -97,14 +97,6 @@ pub step-laid : (d : Device) (buffer : List ℕ) (w : ℕ) → Laid (output-of d
 unfolding step after-grant counted
 step-laid d buffer w l = complete-laid _ _ _ (grant-untouched (bus-grant w) _ (counted (output-of d)) buffer .laid (counted-laid l))
 
--- Rule 9 leaves the words landed as they are.
-pub complete-landed : (o : Option ℕ) (c : Captured) (x : OutputState)
-    → complete o c x .device .core .output .counts .landed ≡ x .output .counts .landed
-unfolding discard holding with-held count-discarded with-counts
-complete-landed o c x =
-    let same : (v : ℕ) → offer v x .state .output .counts .landed ≡ x .output .counts .landed = λ v. offer-untouched v x .landed in
-    by-word (λ (d : Device). d .core .output .counts .landed ≡ x .output .counts .landed) o c x refl (λ e. refl) same same
-
 -- One sample more is counted.
 complete-samples : (o : Option ℕ) (c : Captured) (x : OutputState)
     → complete o c x .device .core .output .counts .samples ≡ x .output .counts .samples

@@ -1,5 +1,5 @@
 -- "A refusal returns its number and no value": what a refused making or file gives in place of a device (`no-device`) is malformed, and every call refuses it 1. Assumes nothing.
-use mathlib.Core.Bool.{Bool, true}
+use mathlib.Core.Bool.{true}
 use mathlib.Core.List.{List}
 use mathlib.Core.Path.{_≡_, refl}
 use Prim.Native.Nat.{ℕ}

@@ -26,7 +26,7 @@ use Rattle.rules.specs.declared.Device.{Device}
 use Rattle.rules.specs.State.{fresh-of, fresh-capture, raise, close-frame, with-cr, with-ris, with-ier, with-cwstrt, with-cwsize, with-escr, with-esur, with-registers, with-pins, with-syncs, with-frame, with-rate, with-partial, with-waiting}
 use Rattle.rules.specs.Capture.{Captured, no-word, flagged, remember-pins, blanking, end-of, frame-closes, at-edge}
 use Rattle.rules.specs.Codes.{arrived, byte-in, taken-out, frame-opens, line-opens, closes, errs, at-code, at-byte}
-use Rattle.rules.specs.Sample.{byte-of, edge, capture-sample}
+use Rattle.rules.specs.Sample.{byte-of, capture-sample}
 use Rattle.rules.specs.RegisterCalls.{enabling, disabling, switch-enable, capture-rises, switch-capture, write-control, clear-flags, write-register, write-at, write-refusal, write, rearmed, rearm}
 use Rattle.rules.specs.Run.{lose-frame, after-grant, step, steps, run-refusal, run, sample}
 use Rattle.rules.specs.WellFormed.{malformed}

@@ -1,9 +1,9 @@
 -- The word that a frame's end pads (W4) is the partial word filled with as many zero data as it lacks, as rule 8 packs them (`padded-with-zeros`).
 -- The idea: a zero datum leaves the bits of a partial word. Assumes nothing.
-use mathlib.Core.Bool.{Bool, true, false, _&&_}
-use mathlib.Core.Option.{Option, none, some}
-use mathlib.Core.Path.{_≡_, refl, sym, _∙_}
-use Prim.Native.Nat.{ℕ, zero, suc, _+_, _-_, _*_, _%_, _^_, _<_}
+use mathlib.Core.Bool.{Bool, _&&_}
+use mathlib.Core.Option.{some}
+use mathlib.Core.Path.{_≡_, _∙_}
+use Prim.Native.Nat.{ℕ, zero, suc, _+_, _-_, _<_}
 use native.Mathlib.Omega.{arith}
 use lib.Dec.{ltb}
 use borrow.Author.Tests.{lt-ltb, le-ltb}

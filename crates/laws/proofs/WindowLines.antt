@@ -1,7 +1,7 @@
 -- The end of the window's last line, by the lines begun and HSYNC (request W1): where it ends, that it never runs on, and how often FRAME has risen by then. The idea: every case
 -- is one of numbers and truth values. Assumes nothing.
 use mathlib.Core.Bool.{Bool, true, false, cond, not, _&&_, _||_}
-use mathlib.Core.Path.{_≡_, refl, sym}
+use mathlib.Core.Path.{_≡_, refl}
 use Prim.Native.Nat.{ℕ, _+_, _<_}
 use native.Mathlib.Decide.{decLt}
 use native.Mathlib.Omega.{arith}

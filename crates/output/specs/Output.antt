@@ -5,7 +5,7 @@ use mathlib.Core.List.{List, [], _∷_, _++_}
 use mathlib.Core.Option.{Option, none, some}
 use Prim.Native.Nat.{ℕ, _+_, _-_, _*_}
 use lib.Dec.{ltb, leb}
-use lib.ListN.{length, take, drop, getD, replicate}
+use lib.ListN.{length, take, drop, replicate}
 use Rattle.numbers.specs.Numbers.{little, number-at}
 use Rattle.output.specs.declared.Counts.{Counts}
 use Rattle.output.specs.declared.Output.{Output}

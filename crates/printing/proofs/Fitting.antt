@@ -1,8 +1,8 @@
 -- Each line fits into 32 bytes: ten digits and at most ten characters before them, or fewer.
 use mathlib.Core.Bool.{Bool, true, false, cond}
-use mathlib.Core.List.{List, [], _∷_, _++_}
+use mathlib.Core.List.{List, [], _∷_}
 use mathlib.Core.Path.{_≡_, ap}
-use Prim.Native.Nat.{ℕ, zero, suc, _+_, _-_, _≤_, _<_, _^_, min}
+use Prim.Native.Nat.{ℕ, zero, suc, _-_, _≤_, _<_, _^_}
 use native.Mathlib.Omega.{arith}
 use lib.Dec.{eqb}
 use lib.ListN.{length, getD, length-append}
@@ -10,7 +10,7 @@ use Rattle.refusals.specs.Table.{outcome}
 use Rattle.refusals.specs.declared.Outcome.{Outcome}
 use Rattle.refusals.specs.declared.Outcome.the-variants.{Accepted, Refused}
 use Rattle.refusals.proofs.Numbered.{numbered}
-use Rattle.text.specs.Text.{ascii, decimal, hex}
+use Rattle.text.specs.Text.{ascii, decimal}
 use Rattle.text.specs.Putting.{Put, putting, put}
 use Rattle.text.proofs.Digits.{decimal-length, hex-length}
 use Rattle.rules.specs.declared.Device.{Device}

@@ -1,7 +1,7 @@
 -- A file by parts, cut in any way, prints what the whole file does; and where no byte more is wanted, whatever stands behind what has come.
-use mathlib.Core.Bool.{Bool, true, false}
+use mathlib.Core.Bool.{false}
 use mathlib.Core.List.{List, [], _∷_, _++_, append-nil}
-use mathlib.Core.Path.{_≡_, refl, sym, ap, _∙_}
+use mathlib.Core.Path.{_≡_, sym, ap, _∙_}
 use Prim.Native.Nat.{ℕ, _<_}
 use lib.Dec.{eqb}
 use lib.ListN.{getD}
@@ -9,8 +9,8 @@ use borrow.Author.Tests.{eqb-true}
 use Rattle.rules.specs.declared.Device.{Device}
 use Rattle.rules.specs.State.{fresh}
 use Rattle.rules.specs.Run.{RunResult}
-use Rattle.file_rules.specs.File.{run-on, run-file}
-use Rattle.file_rules.specs.Parts.{Taken, opened, wants, take-bytes, take-parts, ended, run-parts, joined, left-by}
+use Rattle.file_rules.specs.File.{run-on}
+use Rattle.file_rules.specs.Parts.{Taken, opened, wants, take-bytes, take-parts, ended, run-parts, joined}
 use Rattle.file_rules.proofs.SettingUp.{fresh-ready}
 use Rattle.file_rules.proofs.Taking.{bytes-append, parts-joined, unwanted}
 use Rattle.file_rules.proofs.Singles.{by-bool}

@@ -1,5 +1,5 @@
 -- What is printed (document 01, "The frame printer"), proved of the definitions by computation under one statement, `printer-sheet`: the paper's file, the same at ten and at eight bits and without the grant, and refused ones.
-use mathlib.Core.List.{List, [], _∷_, _++_, flatten}
+use mathlib.Core.List.{List, [], _∷_, flatten}
 use mathlib.Core.Path.{_≡_, refl}
 use Prim.Native.Nat.{ℕ}
 use Rattle.numbers.specs.Numbers.{number, number-at}

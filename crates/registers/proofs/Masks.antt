@@ -1,6 +1,5 @@
 -- A reserved bit of a value is 1 exactly if the value meets the register's mask: a register's ranges fall. Assumes nothing.
 use mathlib.Core.Bool.{not}
-use mathlib.Core.List.{[], _∷_}
 use mathlib.Core.Path.{_≡_}
 use Prim.Native.Nat.{ℕ}
 use native.Mathlib.Omega.{arith}

@@ -8,7 +8,7 @@ use lib.ListN.{length, getD, drop, drop-of-length-le}
 use lib.Seq.{drop-cons}
 use Rattle.rules.specs.declared.Device.{Device}
 use Rattle.rules.specs.RegisterCalls as register-rules
-use Rattle.rules.specs.Run.{Ran, sample}
+use Rattle.rules.specs.Run.{sample}
 use Rattle.rules.specs.State as state
 use Rattle.board_rules.specs.declared.Mode.{Mode}
 use Rattle.board_rules.specs.declared.Mode.the-variants.{One}

@@ -68,10 +68,11 @@ fn has_level(pin: bool, level: bool) -> bool
     pin == level
 }
 
-// The first sample from `first` on at which VSYNC has another level, or the end.
-pub fn level_end(list: &[u32], first: usize, level: bool) -> usize
-    ensures { λ r. ⌜ r ≡ first + samples.level-run level (drop first (now (list .entry))) ⌝ }
+// The first sample from `first` on at which VSYNC has another level than at a sample, or the end.
+pub fn level_end(list: &[u32], first: usize, like: u32) -> usize
+    ensures { λ r. ⌜ r ≡ first + samples.level-run (samples.vsync-pin like) (drop first (now (list .entry))) ⌝ }
 {
+    let level = vsync_pin(like);
     let mut i = first;
     while i < list.len() {
         if has_level(vsync_pin(list[i]), level) {

@@ -75,7 +75,7 @@ fn stretch(s: Capture, samples: &[u32], first: usize) -> usize
     if may_pad(s, w) {
         return first + 1;
     }
-    level_end(samples, first, vsync_pin(w))
+    level_end(samples, first, w)
 }
 
 // The samples in order with JPEG 1.

@@ -3,10 +3,9 @@
 use mathlib.Core.List.{List, [], _∷_}
 use mathlib.Core.Path.{_≡_, refl}
 use Prim.Native.Nat.{ℕ}
-use lib.ListN.{take}
 use Rattle.numbers.specs.Numbers.{number, number-at}
 use Rattle.samples.specs.Samples.{bad-sample, any-bad}
-use Rattle.trace.specs.Decoding.{samples-in, how-many, Samples, many, the-end, refused, samples-at}
+use Rattle.trace.specs.Decoding.{samples-in, how-many, many, the-end, refused, samples-at}
 
 abbrev seven : List ℕ
 seven = 0xAB ∷ 0x0A ∷ 0x01 ∷ 0x1B ∷ 0x09 ∷ 0x80 ∷ 0xFF ∷ []

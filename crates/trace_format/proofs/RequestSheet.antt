@@ -1,12 +1,11 @@
 -- Request W7, sentence by sentence, for files and the writer: worked out from the request by hand, proved of the definitions by computation under one statement, `request-sheet`.
-use mathlib.Core.Bool.{cond}
-use mathlib.Core.List.{List, [], _∷_, _++_, map}
+use mathlib.Core.List.{List, [], _∷_, map}
 use mathlib.Core.Path.{_≡_, refl}
 use Prim.Native.Nat.{ℕ}
-use lib.ListN.{length, drop, replicate}
+use lib.ListN.{drop}
 use Rattle.numbers.specs.Numbers.{little, number, number-at}
-use Rattle.trace_format.specs.Format.{version-for, count-size, header-length, write-bytes, sample-bytes, header, encode}
-use Rattle.trace_format.specs.Reading.{same, sample-count, whole, form-of, form-refusal, item, Item, a-write, a-sample, the-end, refused, checked, write-at, sample-at, past, found, Read, read, samples-from, file-refusal, run-checks}
+use Rattle.trace_format.specs.Format.{version-for, count-size, header}
+use Rattle.trace_format.specs.Reading.{same, whole, form-of, form-refusal, item, Item, a-write, a-sample, the-end, refused, checked, write-at, sample-at, past, found, Read, read, samples-from, file-refusal, run-checks}
 use Rattle.refusals.specs.Refusals.{first}
 use Rattle.samples.specs.Samples.{bad-sample, any-bad}
 

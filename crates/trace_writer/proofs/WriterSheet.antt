@@ -1,8 +1,8 @@
 -- The writer (document 01, "Refusal numbers" and "Trace file, version 1"), worked out by hand and proved of the definitions by computation under one statement, `writer-sheet`.
-use mathlib.Core.List.{List, [], _∷_, _++_, map}
+use mathlib.Core.List.{List, [], _∷_, map}
 use mathlib.Core.Path.{_≡_, refl}
 use Prim.Native.Nat.{ℕ}
-use lib.ListN.{length, replicate}
+use lib.ListN.{replicate}
 use Rattle.refusals.specs.Refusals.{Answer, refused, answered}
 use Rattle.samples.specs.Samples.{bad-sample, any-bad}
 use Rattle.trace_format.specs.declared.Write.{Write}

@@ -367,9 +367,9 @@ fn lasting_end(s: Capture, samples: &[u32], first: usize) -> usize
         return data_end(s, samples, first);
     }
     let frame = s.frame;
-    let level = vsync_pin(samples[first]);
-    if goes_on(blanks(level, control::vspol(cr)), is_open(frame)) {
-        return level_end(samples, first, level);
+    let w = samples[first];
+    if goes_on(blanks(vsync_pin(w), control::vspol(cr)), is_open(frame)) {
+        return level_end(samples, first, w);
     }
     first
 }

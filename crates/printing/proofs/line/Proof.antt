@@ -1,17 +1,13 @@
 -- `printing::line` meets its contract.
-use mathlib.Core.Path.{_≡_, refl, sym, ap, _∙_}
+use mathlib.Core.Path.{sym, _∙_}
 use native.Mathlib.Omega.{arith}
-use borrow.Author.Tests.{le-ltb, lt-ltb, le-leb, lt-leb, eq-eqb, ne-eqb}
 use borrow.Author.Needs.{needs}
-use Prim.Native.Nat.{ℕ}
-use mathlib.Core.List.{List, []}
 use denote.Ref.{now}
 use Rattle.refusals.proofs.Numbered.{never-zero}
-use Rattle.text.specs.Putting.{putting, put}
 use Rattle.text.proofs.Appending.{put-none}
-use Rattle.printing.specs.Printed.{lines, line}
+use Rattle.printing.specs.Printed.{lines}
 use Rattle.printing.proofs.Lines.{refused-lines, past-one}
-use Rattle.printing.proofs.Fitting.{Counted, line-fits, put-whole, small}
+use Rattle.printing.proofs.Fitting.{line-fits, put-whole, small}
 use Rattle.printing.proofs.line.Statement.{statement}
 use Rattle.printing.proofs.line.Tie as tie
 

@@ -1,7 +1,5 @@
 -- `printing::line_count` meets its contract.
-use mathlib.Core.Path.{_≡_, refl, sym, ap, _∙_}
 use native.Mathlib.Omega.{arith}
-use borrow.Author.Tests.{le-ltb, lt-ltb, le-leb, lt-leb, eq-eqb, ne-eqb}
 use borrow.Author.Needs.{needs}
 use Rattle.refusals.proofs.Numbered.{never-zero}
 use Rattle.printing.specs.Printed.{report, lines}

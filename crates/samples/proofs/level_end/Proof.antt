@@ -13,10 +13,10 @@ use Rattle.samples.proofs.level_end.Statement.{statement}
 use Rattle.samples.proofs.level_end.Tie as tie
 
 abbrev Inv-loop : tie.InvT-loop
-Inv-loop list first level i₀ i = first + level-run level (drop first list) ≡ i + level-run level (drop i list)
+Inv-loop list first like level i₀ i = first + level-run level (drop first list) ≡ i + level-run level (drop i list)
 
 abbrev μ-loop : tie.MeasureT-loop
-μ-loop list first level i₀ i = length list - i
+μ-loop list first like level i₀ i = length list - i
 
 loop-holds : tie.Need-loop-holds Inv-loop μ-loop
 loop-holds c = refl
@@ -32,22 +32,22 @@ loop-less c = omega arith
 
 loop-again : tie.Need-loop-again Inv-loop μ-loop
 loop-again c =
-    let same = rw (c .before .before .vsync-pin .ensures) at (sym (c .before .has-level .ensures) ∙ c .if1 .taken) in
-    let on = run-on (c .before .before .before .before .before .before .before .args .list .now) _ _ (c .before .before .before .before .loop-test .taken) same in
+    let same = rw (c .before .before .vsync-pin2 .ensures) at (sym (c .before .has-level .ensures) ∙ c .if1 .taken) in
+    let on = run-on (c .before .before .before .before .before .before .before .before .args .list .now) _ _ (c .before .before .before .before .loop-test .taken) same in
     rw add-one (omega (arith, c .before .before .before .before .before .loop .inv, on))
 
 returns : tie.Need-returns Inv-loop μ-loop
 unfolding level-run
 returns c =
-    let inside : c .before .before .before .before .before .loop .i < length (c .before .before .before .before .before .before .before .args .list .now) = c .before .before .before .before .loop-test .taken in
-    let other = rw (c .before .before .vsync-pin .ensures) at (sym (c .before .has-level .ensures) ∙ c .if1 .left) in
-    sym (rw (drop-cons {A = ℕ} _ _ 0 inside, other, add-zero) at (c .before .before .before .before .before .loop .inv))
+    let inside : c .before .before .before .before .before .loop .i < length (c .before .before .before .before .before .before .before .before .args .list .now) = c .before .before .before .before .loop-test .taken in
+    let other = rw (c .before .before .vsync-pin2 .ensures) at (sym (c .before .has-level .ensures) ∙ c .if1 .left) in
+    rw (← c .before .before .before .before .before .before .vsync-pin .ensures) (sym (rw (drop-cons {A = ℕ} _ _ 0 inside, other, add-zero) at (c .before .before .before .before .before .loop .inv)))
 
 returns-2 : tie.Need-returns-2 Inv-loop μ-loop
 unfolding level-run
 returns-2 c =
-    let past : length (c .before .before .before .args .list .now) ≤ c .before .loop .i = c .loop-test .left in
-    sym (rw (drop-of-length-le _ past, add-zero) at (c .before .loop .inv))
+    let past : length (c .before .before .before .before .args .list .now) ≤ c .before .loop .i = c .loop-test .left in
+    rw (← c .before .before .vsync-pin .ensures) (sym (rw (drop-of-length-le _ past, add-zero) at (c .before .loop .inv)))
 
 pub level-end-spec : {M : Type 1} → statement M
 level-end-spec =
@@ -55,6 +55,7 @@ level-end-spec =
     (tie.spec
     Inv-loop
     μ-loop
+    (λ c κs. search needs)
     loop-holds
     (λ c. search needs)
     shared-slice-read-vsync-pin

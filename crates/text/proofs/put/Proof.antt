@@ -1,8 +1,8 @@
 -- `text::put` meets its contract: what is left of the bytes, put from the place on, leads to the same.
 use borrow.Author.Needs.{needs}
-use mathlib.Core.Path.{_≡_, refl, sym, ap, _∙_}
+use mathlib.Core.Path.{_≡_, refl, _∙_}
 use native.Mathlib.Omega.{arith}
-use Prim.Native.Nat.{_-_, _≤_}
+use Prim.Native.Nat.{_-_}
 use lib.ListN.{length, drop}
 use Rattle.text.specs.Putting.{put}
 use Rattle.text.proofs.Appending.{put-on, put-over}

@@ -18,7 +18,7 @@ returns c = rw (sym (c .before .may-pad .ensures) ∙ c .if1 .taken)
 
 returns-2 : tie.Need-returns-2
 unfolding stretch
-returns-2 c = rw (sym (c .before .before .before .may-pad .ensures) ∙ c .before .before .if1 .left, ← c .before .vsync-pin .ensures) (c .level-end .ensures)
+returns-2 c = rw (sym (c .before .before .may-pad .ensures) ∙ c .before .if1 .left) (c .level-end .ensures)
 
 pub stretch-spec : {M : Type 1} → statement M
 stretch-spec =
@@ -29,6 +29,5 @@ stretch-spec =
     (λ c κs. search needs)
     add-result
     returns
-    (λ c κs. search needs)
     (λ c κs. search needs)
     returns-2)

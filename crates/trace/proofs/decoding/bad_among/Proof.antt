@@ -1,5 +1,5 @@
 -- `trace::decoding::bad_among` meets its contract: a sample is bad exactly if the bits of those so far are, or one of those from i on is.
-use Prim.Native.Nat.{ℕ, _-_}
+use Prim.Native.Nat.{_-_}
 use borrow.Author.Needs.{needs}
 use lib.ListN.{length, drop, drop-of-length-le}
 use mathlib.Core.Bool.{_||_}

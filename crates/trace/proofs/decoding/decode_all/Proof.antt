@@ -1,6 +1,6 @@
 -- `trace::decoding::decode_all` meets its contract: the samples so far stand at the front of the array.
 use Prim.Native.Nat.{_-_, _≤_}
-use lib.ListN.{length, drop}
+use lib.ListN.{drop}
 use lib.Seq.{sets, length-sets}
 use mathlib.Core.Path.{_≡_, refl}
 use native.Mathlib.Omega.{arith}

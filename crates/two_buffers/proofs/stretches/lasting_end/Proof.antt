@@ -13,7 +13,7 @@ returns-2 : tie.Need-returns-2
 unfolding lasting-end
 returns-2 c =
     let on = rw (c .before .before .before .before .blanks .ensures, c .before .before .before .before .before .before .vsync-pin .ensures, c .before .before .before .before .before .vspol .ensures, c .before .before .before .is-open .ensures) at (sym (c .before .before .goes-on .ensures) ∙ c .before .if2 .taken) in
-    rw (sym (c .before .before .before .before .before .before .before .before .before .embedded .ensures) ∙ c .before .before .before .before .before .before .before .before .if1 .left, on, ← c .before .before .before .before .before .before .vsync-pin .ensures) (c .level-end .ensures)
+    rw (sym (c .before .before .before .before .before .before .before .before .before .embedded .ensures) ∙ c .before .before .before .before .before .before .before .before .if1 .left, on) (c .level-end .ensures)
 
 returns-3 : tie.Need-returns-3
 unfolding lasting-end
