@@ -173,14 +173,17 @@ static int in_order(const void *left, const void *right)
     return files ? files : (*a)->number - (*b)->number;
 }
 
-/* The cases of a section in order; how many. */
 enum { MOST_CASES = 2000 };
 static const reached_case *listed[MOST_CASES];
 
+/* Lists the cases of a section in order; how many. */
 static size_t list(const reached_case *const *first, const reached_case *const *end)
 {
     const size_t count = (size_t)(end - first);
-    if (count > MOST_CASES) exit(2);
+    if (count > MOST_CASES) {
+        printf("More than %d cases: MOST_CASES of reached.c is to be raised.\n", MOST_CASES);
+        exit(2);
+    }
     for (size_t i = 0; i < count; i++) listed[i] = first[i];
     qsort(listed, count, sizeof *listed, in_order);
     return count;
@@ -233,17 +236,17 @@ static bool numbers_summary(void)
     return complete;
 }
 
-/* No two cases have one text. */
 static int by_text(const void *left, const void *right)
 {
     const reached_case *const *a = left, *const *b = right;
     return strcmp((*a)->text, (*b)->text);
 }
 
-static bool texts_differ(void)
+/* Whether no two cases of a section have one text. */
+static bool texts_differ(const reached_case *const *first, const reached_case *const *end)
 {
     bool differ = true;
-    const size_t count = list(__start_cases, __stop_cases);
+    const size_t count = list(first, end);
     qsort(listed, count, sizeof *listed, by_text);
     for (size_t i = 1; i < count; i++) {
         if (by_text(&listed[i - 1], &listed[i])) continue;
@@ -256,5 +259,7 @@ static bool texts_differ(void)
 bool reached_summary(void)
 {
     const bool answered = answers_summary(), ordered = orders_summary(), reached = cases_summary(), by_file = by_file_summary(), every = numbers_summary();
-    return texts_differ() && answered && ordered && reached && by_file && every;
+    const bool differ = texts_differ(__start_cases, __stop_cases) & texts_differ(__start_cases_by, __stop_cases_by)
+                      & texts_differ(__start_cases_at, __stop_cases_at);
+    return differ && answered && ordered && reached && by_file && every;
 }
