@@ -1,10 +1,12 @@
-// The bench sheet, run: each call's answer and what the engine and memory hold after it are printed, and compared with the stored output.
-use engine::Reading;
+// The bench sheet, run: each call's answer and what the device and memory hold after it are printed, and compared with the stored output.
+#![tactic(auto)]
+
+use device::Reading;
 use libc::STDOUT_FILENO;
 use numbers::four;
 use refusals::Outcome;
 use registers::Register;
-use rules::Engine;
+use rules::Device;
 
 fn text(t: &[u8]) {
     io::write_all(STDOUT_FILENO, t);
@@ -18,7 +20,7 @@ fn decimal(n: u32) {
     io::print_decimal(STDOUT_FILENO, n as u64);
 }
 
-// What a call that changes the engine answers.
+// What a call that changes the device answers.
 fn answer(outcome: Outcome) {
     match outcome {
         Outcome::Accepted => text(b": accepted\n"),
@@ -31,20 +33,20 @@ fn answer(outcome: Outcome) {
 }
 
 // A register write: what it answers is printed.
-fn write(d: Engine, offset: u32, value: u32) -> Engine {
-    let w = engine::write(d, offset, value);
+fn write(d: Device, offset: u32, value: u32) -> Device {
+    let w = device::write(d, offset, value);
     let outcome = w.outcome;
     text(b"write ");
     hex(offset, 2);
     text(b" ");
     hex(value, 4);
     answer(outcome);
-    w.engine
+    w.device
 }
 
 // A register read: what it answers is printed.
-fn read(d: Engine, offset: u32) {
-    let reading = engine::read(d, offset);
+fn read(d: Device, offset: u32) {
+    let reading = device::read(d, offset);
     text(b"read ");
     hex(offset, 2);
     match reading {
@@ -62,11 +64,11 @@ fn read(d: Engine, offset: u32) {
 }
 
 // A run over 8 bytes of memory, all 0 before it: its answer, the counts, CR, RIS and SR, and the two words of the memory.
-fn run(d: Engine, start: usize, samples: &[u32]) -> Engine {
+fn run(d: Device, start: usize, samples: &[u32]) -> Device {
     let mut memory = [0u8; 8];
-    let r = engine::run(d, &mut memory, start, samples);
+    let r = device::run(d, &mut memory, start, samples);
     let outcome = r.outcome;
-    let e = r.engine;
+    let e = r.device;
     let output = e.core.output;
     let counts = output.counts;
     text(b"run from byte ");
@@ -94,21 +96,21 @@ fn run(d: Engine, start: usize, samples: &[u32]) -> Engine {
 }
 
 // Trace T from a start byte, with CR written before it.
-fn trace_t(cr: u32, start: usize) -> Engine {
+fn trace_t(cr: u32, start: usize) -> Device {
     let t = [
         0x0C000, 0x1C000, 0x00AAB, 0x10AAB, 0x0091B, 0x1091B, 0x2C000, 0x1C000,
     ];
-    let d = write(engine::fresh(), Register::CR, cr);
+    let d = write(device::fresh(), Register::CR, cr);
     run(d, start, &t)
 }
 
 // One blank edge and nine pixels, 1 to 9, without a grant.
-fn nine_pixels() -> Engine {
+fn nine_pixels() -> Device {
     let samples = [
         0x0C000, 0x1C000, 0x00001, 0x10001, 0x00002, 0x10002, 0x00003, 0x10003, 0x00004, 0x10004,
         0x00005, 0x10005, 0x00006, 0x10006, 0x00007, 0x10007, 0x00008, 0x10008, 0x00009, 0x10009,
     ];
-    let d = write(engine::fresh(), Register::CR, 0x48E3);
+    let d = write(device::fresh(), Register::CR, 0x48E3);
     run(d, 0, &samples)
 }
 
@@ -117,7 +119,7 @@ fn windows() {
     let line = [
         0x0C000, 0x1C000, 0x00AAB, 0x10AAB, 0x0091B, 0x1091B, 0x00AAC, 0x10AAC, 0x00AAD, 0x30AAD,
     ];
-    let d = write(engine::fresh(), Register::CWSTRT, 1);
+    let d = write(device::fresh(), Register::CWSTRT, 1);
     let d = write(d, Register::CWSIZE, 1);
     let d = write(d, Register::CR, 0x48E7);
     run(d, 0, &line);
@@ -127,7 +129,7 @@ fn registers() {
     text(
         b"CR write 0x8 is accepted (W4), and 0x10 (W6); 0x18 is refused 5, 0x1008 is refused 4:\n",
     );
-    let d = write(engine::fresh(), Register::CR, 0x8);
+    let d = write(device::fresh(), Register::CR, 0x8);
     let d = write(d, Register::CR, 0x10);
     let d = write(d, Register::CR, 0x18);
     let d = write(d, Register::CR, 0x1008);
@@ -139,13 +141,13 @@ fn registers() {
     let good = [0x3FFFF];
     let d = run(d, 0, &bad);
     run(d, 0, &good);
-    text(b"A fresh engine gives SR 3; no register, and access against its kind:\n");
-    let d = engine::fresh();
+    text(b"A fresh device gives SR 3; no register, and access against its kind:\n");
+    let d = device::fresh();
     read(d, Register::SR);
     read(d, 0x28);
     read(d, Register::ICR);
     let d = write(d, Register::SR, 0);
-    text(b"A malformed engine is refused 1:\n");
+    text(b"A malformed device is refused 1:\n");
     let mut m = d;
     m.core.capture.registers.ier = 32;
     read(m, Register::CR);
@@ -175,5 +177,5 @@ fn main() {
     trace_t(0x48E3, 8);
     trace_t(0x48E3, 9);
     let none = [0u32; 0];
-    run(engine::fresh(), 0, &none);
+    run(device::fresh(), 0, &none);
 }

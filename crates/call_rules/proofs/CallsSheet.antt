@@ -7,10 +7,10 @@ use lib.ListN.{replicate}
 use Rattle.buffers.specs.declared.Buffer.TheVariants.{A, B}
 use Rattle.refusals.specs.Refusals.{refused, answered}
 use Rattle.output.specs.Output.{nothing, completed, lost}
-use Rattle.two_memory_rules.specs.HandingBack as handing
-use Rattle.two_memory_rules.proofs.BuffersSheet.{every_device_rule}
+use Rattle.board_rules.specs.HandingBack as handing
+use Rattle.board_rules.proofs.BuffersSheet.{every_board_rule}
 use Rattle.image_rules.specs.Image as image
-use Rattle.image_rules.specs.DeviceImage.{image_of, encodes, mode_encodes, zeros_encode, mode_of, device_of}
+use Rattle.image_rules.specs.BoardImage.{image_of, encodes, mode_encodes, zeros_encode, mode_of, board_of}
 use Rattle.call_rules.specs.DeviceCalls.{called, reset, write, gave, got, got_line, read, answer_words, two_words, frame_called, frame_words}
 
 -- A sample's answers over one memory.
@@ -56,13 +56,13 @@ got_sheet = refl
 pub line_sheet : map (got_line 7) (answered true ∷ answered false ∷ refused 1 ∷ []) ≡ gave 0 1 ∷ gave 0 0 ∷ gave 1 7 ∷ []
 line_sheet = refl
 
--- Calls on images: CR of a fresh engine gets ENABLE, and is read; offset 16384 is none, nor is 2; and words that encode no device.
+-- Calls on images: CR of a fresh device gets ENABLE, and is read; offset 16384 is none, nor is 2; and words that encode no board.
 pub reads_sheet :
     read (write reset.image 0 16384).image 0 7 ∷ read (write reset.image 16384 0).image 0 7 ∷ read reset.image 2 7 ∷ read (replicate 67 9) 0 7 ∷ [] ≡
     gave 0 16384 ∷ gave 0 0 ∷ gave 2 7 ∷ gave 1 7 ∷ []
-unfolding every_device_rule image.image_of image.flags_encode image.frame_encodes image.encodes image.frame_of image.waiting_of image.engine_of image_of zeros_encode mode_encodes encodes mode_of device_of reset write read
+unfolding every_board_rule image.image_of image.flags_encode image.frame_encodes image.encodes image.frame_of image.waiting_of image.device_of image_of zeros_encode mode_encodes encodes mode_of board_of reset write read
 reads_sheet = refl
 
 pub writes_sheet : write reset.image 16384 0 ∷ write (replicate 67 9) 0 16384 ∷ [] ≡ called 2 reset.image ∷ called 1 (replicate 67 9) ∷ []
-unfolding every_device_rule image.image_of image.flags_encode image.frame_encodes image.encodes image.frame_of image.waiting_of image.engine_of image_of zeros_encode mode_encodes encodes mode_of device_of reset write
+unfolding every_board_rule image.image_of image.flags_encode image.frame_encodes image.encodes image.frame_of image.waiting_of image.device_of image_of zeros_encode mode_encodes encodes mode_of board_of reset write
 writes_sheet = refl

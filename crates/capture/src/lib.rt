@@ -1,5 +1,7 @@
 // Rules 2 to 8 of one sample, over the capture state, by the sync pins, and by whether it pads a word (W4); by codes they are in the crate `coded_capture` (W6). A rule has the name of its definition, and an edge is cut by whether a sync blanks. The functions are for the
-// crates above, which call them on well-formed engines; each states its result as an equation with its definition.
+// crates above, which call them on well-formed devices; each states its result as an equation with its definition.
+#![tactic(auto)]
+
 ghost use Rattle.std.specs.Prelude.{cond, ◌≡◌, ◌+◌, ◌<◌, ◌^◌};
 ghost use Rattle.std.proofs.Math.Option.{none, some};
 ghost use Rattle.registers.specs.Control.{edm};
@@ -22,14 +24,14 @@ use rules::{Capture, Frame, Partial, Pins, Registers, Scan, Syncs};
 use samples::{clock_pin, hsync_pin, pixel_data, vsync_pin};
 
 // The word that a sample fills by a datum, if it fills one.
-#[derive(Drop)]
+#[derive(Clone, Copy)]
 pub enum Word {
     Nothing,
     Full(u32),
 }
 
 // The state after a sample, and its word.
-#[derive(Drop)]
+#[derive(Clone, Copy)]
 pub struct Captured {
     pub state: Capture,
     pub word: Word,

@@ -1,5 +1,7 @@
 // Rules 2 to 8 of one sample with ESS 1 (W6): frames and lines by codes in the data. A rule has the name of its definition. The functions are for the crates above, which call
-// them on well-formed engines.
+// them on well-formed devices.
+#![tactic(auto)]
+
 ghost use Rattle.std.specs.Prelude.{true, false, [], ◌∷◌, ◌≡◌, ◌+◌, ◌-◌, ◌<◌, ◌≤◌, ◌^◌, cond, eqb};
 ghost use Rattle.registers.specs.Control as control_fields;
 ghost use Rattle.registers.specs.Control.{edm, embedded};
@@ -23,7 +25,7 @@ use rules::{Capture, Frame, Scan, Syncs};
 use samples::pixel_data;
 
 // The state after a sample, its word, whether FRAME is due, and whether ERR rose.
-#[derive(Drop)]
+#[derive(Clone, Copy)]
 pub struct Coded {
     pub state: Capture,
     pub word: Word,

@@ -1,5 +1,7 @@
 // W6, codes in the data: how many bytes wait that may begin a code, and what a code means. It knows of no device. Each function answers for
 // every number, and its contract gives the answer by a definition of specs/.
+#![tactic(auto)]
+
 ghost use Rattle.std.specs.Prelude.{◌≡◌, eqb};
 ghost use Rattle.codes.specs.Bytes as code_bytes;
 ghost use Rattle.codes.specs.Meaning as code_meanings;
@@ -7,7 +9,7 @@ ghost use Rattle.codes.specs.Meaning as code_meanings;
 use fields::delimiters::{fec, feu, fsc, fsu, lec, leu, lsc, lsu};
 
 // The bytes that wait: none, FF, FF 00, or FF 00 00.
-#[derive(Drop)]
+#[derive(Clone, Copy)]
 pub enum Waiting {
     Zero,
     One,
@@ -16,7 +18,7 @@ pub enum Waiting {
 }
 
 // What a code means; one that matches no delimiter means nothing.
-#[derive(Drop)]
+#[derive(Clone, Copy)]
 pub enum Meaning {
     FrameEnd,
     FrameStart,

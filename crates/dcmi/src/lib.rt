@@ -1,13 +1,15 @@
-// The C interface: what include/dcmi.h declares, on numbers and bytes. An engine, with its buffer mode, is an image of 67 words that the caller owns. Each function answers 0
+// The C interface: what include/dcmi.h declares, on numbers and bytes. A device, with its buffer mode, is an image of 67 words that the caller owns. Each function answers 0
 // or a refusal number for every input, has no `requires`, and states its whole result, the image, the memory and the outputs that it leaves, as one
 // equation with a definition of `call_rules` or `file_calls`; refused, all of them are as they were. What is done is in the crate of each subject, under the same contract.
+#![tactic(auto)]
+
 ghost use Rattle.std.specs.Prelude.{◌≡◌};
-ghost use Rattle.device.specs.Answers as call_answers;
+ghost use Rattle.board.specs.Answers as call_answers;
 ghost use Rattle.trace_writer.specs.Writing as writing;
 ghost use Rattle.call_rules.specs.DeviceCalls as call_rules;
 ghost use Rattle.file_calls.specs.FileCalls as file_call_rules;
 
-// A fresh engine.
+// A fresh device.
 #[unsafe(no_mangle)]
 pub extern "C" fn dcmi_reset(image: &mut [u32; 67]) -> u32
     ensures { call_rules.called result image.new ≡ call_rules.reset }
@@ -15,7 +17,7 @@ pub extern "C" fn dcmi_reset(image: &mut [u32; 67]) -> u32
     device_calls::reset(image)
 }
 
-// An engine made with a depth.
+// A device made with a depth.
 #[unsafe(no_mangle)]
 pub extern "C" fn dcmi_reset_depth(image: &mut [u32; 67], depth: u32) -> u32
     ensures { call_rules.called result image.new ≡ call_rules.reset_depth image.old depth }
@@ -99,7 +101,7 @@ pub extern "C" fn dcmi_run_two_slices(
     device_calls::run_two(image, memory_a, start_a, memory_b, start_b, samples)
 }
 
-// A trace file on a fresh engine, over the memory from the start byte on.
+// A trace file on a fresh device, over the memory from the start byte on.
 #[unsafe(no_mangle)]
 pub extern "C" fn dcmi_run_file_slices(
     image: &mut [u32; 67],
@@ -112,7 +114,7 @@ pub extern "C" fn dcmi_run_file_slices(
     file_calls::run_file(image, file, memory, start)
 }
 
-// A trace file on an engine made with a depth.
+// A trace file on a device made with a depth.
 #[unsafe(no_mangle)]
 pub extern "C" fn dcmi_run_file_depth_slices(
     image: &mut [u32; 67],

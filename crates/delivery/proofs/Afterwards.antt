@@ -26,8 +26,8 @@ use Rattle.rules.specs.Capture.{enabled}
 use Rattle.rules.specs.Sample.{capture_sample, next_capture}
 use Rattle.laws.proofs.RegisterValues.{eight_bits}
 use Rattle.laws.proofs.Sampled.{next_overrun, next_enable, word_enabled}
-use Rattle.rules.specs.Device.{is_two}
-use Rattle.two_memory_rules.specs.TwoRuns.{lent}
+use Rattle.board_rules.specs.State.{is_two}
+use Rattle.board_rules.specs.BoardRuns.{lent}
 use Rattle.delivery.specs.Calls.{System, stepped}
 use Rattle.delivery.specs.Noted.{Turn, first_turn, word_turn, next_turn, Noted, note, noted, words, any_error}
 use Rattle.delivery.specs.Placed.{with_noted}
@@ -62,7 +62,7 @@ none_disabled s (w ∷ ws) off = go (capture_sample s w).word (word_enabled s w)
     go none on e = e
     go (some v) on e = let z : ◌≡◌ {A = Bool} true false = sym (on v refl) ∙ off in absurd (true≢false z)
 
--- An engine that was made has at least one place in its FIFO.
+-- A device that was made has at least one place in its FIFO.
 deep : (depth : ℕ) → bad_depth depth ≡ false → 1 ≤ depth
 unfolding bad_depth
 deep depth sound = let n = eqb-false depth 0 (or_false (eqb depth 0) (ltb slot_count depth) sound).0 in omega arith

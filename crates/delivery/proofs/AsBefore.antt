@@ -16,8 +16,8 @@ use Rattle.landing.specs.Memory.{with_words}
 use Rattle.landing.proofs.Buffer.{filled, filled_stored}
 use Rattle.rules.specs.declared.Capture.{Capture}
 use Rattle.rules.specs.Sample.{capture_sample, next_capture}
-use Rattle.two_memory_rules.specs.TwoBuffers.{part}
-use Rattle.two_memory_rules.specs.TwoRuns.{frame_buffer}
+use Rattle.board_rules.specs.TwoBuffers.{part}
+use Rattle.board_rules.specs.BoardRuns.{frame_buffer}
 use Rattle.delivery.specs.Calls.{Starts, one_memory, Call, starts_of, System, after_call, Moment}
 use Rattle.delivery.specs.Noted.{Turn, first_turn, word_turn, turn_after, next_turn, Noted, note, noted, words, any_error}
 use Rattle.delivery.specs.Placed.{with_word, with_noted}

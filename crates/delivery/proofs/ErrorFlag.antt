@@ -1,5 +1,5 @@
 -- ERR in demand 3 (W6). Under the premises but that of ERR, bit 2 of RIS is 1 at a moment exactly if ERR rises at one of the samples so far, by the inputs alone (`error_flag`). So under the premises it is 0 at every moment
--- (`no_error_flag`), and under the others alone it is 1 at some moment exactly if `any_error` holds (`error_at_some_moment`). The idea: until ERR rises the engine is the capture rules beside the output rules, and no sample clears it. Assumes nothing.
+-- (`no_error_flag`), and under the others alone it is 1 at some moment exactly if `any_error` holds (`error_at_some_moment`). The idea: until ERR rises the device is the capture rules beside the output rules, and no sample clears it. Assumes nothing.
 use mathlib.Core.Bool.{Bool, true, false, ◌||◌, false≢true}
 use mathlib.Core.List.{List, [], ◌∷◌, ◌++◌, map, append-nil}
 use mathlib.Core.Path.{◌≡◌, refl, sym, ap, ◌∙◌}
@@ -12,12 +12,12 @@ use Rattle.bits.specs.Bits.{bit}
 use Rattle.bits.proofs.Booleans.{or_true, or_unit}
 use Rattle.rules.specs.declared.Capture.{Capture}
 use Rattle.rules.specs.Sample.{capture_sample, next_capture}
-use Rattle.rules.specs.Effects.{placed}
+use Rattle.rules.specs.RegisterCalls.{placed}
 use Rattle.laws.proofs.Flags.{error_by_rules}
-use Rattle.rules.specs.declared.Device.{Device}
-use Rattle.two_memory_rules.specs.TwoBuffers.{two_step}
-use Rattle.rules.specs.Device.{fresh_of}
-use Rattle.delivery.specs.Calls.{devices, Starts, one_memory, two_memories, Call, starts_of, System, accepted, after_call, samples, says, stepped, Moment, moment, moments_inside, moments}
+use Rattle.board_rules.specs.declared.Board.{Board}
+use Rattle.board_rules.specs.TwoBuffers.{two_step}
+use Rattle.board_rules.specs.BoardCalls.{fresh_of}
+use Rattle.delivery.specs.Calls.{boards, Starts, one_memory, two_memories, Call, starts_of, System, accepted, after_call, samples, says, stepped, Moment, moment, moments_inside, moments}
 use Rattle.delivery.specs.Noted.{Configured, any_error}
 use Rattle.delivery.specs.Delivery.{Scenario, set_up, trace, configured, start_bytes, Provided, Premises, All, unsampled, all_moments}
 use Rattle.delivery.proofs.Alls.{all_append, all_last, all_map}
@@ -29,12 +29,12 @@ use Rattle.delivery.proofs.Unsampled.{each_unsampled}
 use Rattle.delivery.proofs.Prefixes.{Reached, all_reached}
 use Rattle.delivery.proofs.Afterwards.{first, standing}
 
--- ERR of a device, and at a moment.
-abbrev pub err : Device → Bool
-err b = bit 2 b.engine.core.capture.registers.ris
+-- ERR of a board, and at a moment.
+abbrev pub err : Board → Bool
+err b = bit 2 b.device.core.capture.registers.ris
 
 abbrev pub error_at : Moment → Bool
-error_at m = err m.device
+error_at m = err m.board
 
 -- ERR rises at one of the first n accepted samples, by the inputs alone.
 abbrev pub error_by : Scenario → ℕ → Bool
@@ -46,10 +46,10 @@ at_some f [] = false
 at_some f (m ∷ ms) = f m || at_some f ms
 
 -- A sample raises ERR where the capture rules say so, and never clears it.
-stepped_error : (t : Starts) (s : System) (w : ℕ) → err (stepped t s w).device ≡ err s.device || (capture_sample s.device.engine.core.capture w).error
+stepped_error : (t : Starts) (s : System) (w : ℕ) → err (stepped t s w).board ≡ err s.board || (capture_sample s.board.device.core.capture w).error
 unfolding stepped two_step
-stepped_error (one_memory start) s w = error_by_rules s.device.engine _ w
-stepped_error (two_memories start_a start_b) s w = error_by_rules (placed _ s.device.engine) _ w
+stepped_error (one_memory start) s w = error_by_rules s.board.device _ w
+stepped_error (two_memories start_a start_b) s w = error_by_rules (placed _ s.board.device) _ w
 
 one_more : (s : Capture) (xs : List ℕ) (w : ℕ) → any_error s (xs ++ w ∷ []) ≡ any_error s xs || (capture_sample (captures s xs) w).error
 unfolding any_error captures
@@ -61,23 +61,23 @@ one_more s (x ∷ xs) w = rw (one_more (next_capture s x) xs w) (go (capture_sam
     go false c d = refl
 
 module _ (x : Scenario) (p : Provided x) where
-  -- The device after samples xs.
-  abbrev after : List ℕ → Device
-  after xs = (sampled (start_bytes x) (set_up x) xs).device
+  -- The board after samples xs.
+  abbrev after : List ℕ → Board
+  after xs = (sampled (start_bytes x) (set_up x) xs).board
 
   error_rises : (xs zs : List ℕ) (w : ℕ) → trace x ≡ xs ++ w ∷ zs → err (after xs) ≡ any_error (first x) xs → err (after (xs ++ w ∷ [])) ≡ any_error (first x) (xs ++ w ∷ [])
   unfolding sampled
   error_rises xs zs w e so =
-      ap (λ (s : System). err s.device) (sampled_append (start_bytes x) (set_up x) xs (w ∷ []))
+      ap (λ (s : System). err s.board) (sampled_append (start_bytes x) (set_up x) xs (w ∷ []))
       ∙ stepped_error (start_bytes x) (sampled (start_bytes x) (set_up x) xs) w
-      ∙ ap (λ (b : Bool). b || (capture_sample (after xs).engine.core.capture w).error) so
+      ∙ ap (λ (b : Bool). b || (capture_sample (after xs).device.core.capture w).error) so
       ∙ go (any_error (first x) xs) refl
       ∙ sym (one_more (first x) xs w)
     where
       go : (b : Bool) → any_error (first x) xs ≡ b
-          → b || (capture_sample (after xs).engine.core.capture w).error ≡ b || (capture_sample (captures (first x) xs) w).error
+          → b || (capture_sample (after xs).device.core.capture w).error ≡ b || (capture_sample (captures (first x) xs) w).error
       go true rose = refl
-      go false calm = ap (λ (s : System). (capture_sample s.device.engine.core.capture w).error) (standing x p xs (w ∷ zs) e calm).is
+      go false calm = ap (λ (s : System). (capture_sample s.board.device.core.capture w).error) (standing x p xs (w ∷ zs) e calm).is
 
   error_after : (xs zs : List ℕ) → trace x ≡ xs ++ zs → err (after xs) ≡ any_error (first x) xs
   unfolding sampled any_error
@@ -88,9 +88,9 @@ module _ (x : Scenario) (p : Provided x) where
   reached_error : (m : Moment) → Reached (start_bytes x) (set_up x) (trace x) m → error_at m ≡ error_by x m.count
   reached_error m r =
       let at : take m.count (trace x) ≡ r.so_far = rw (r.whole, r.count) (take_at r.so_far r.rest (length r.so_far) refl) in
-      rw (at, r.device) (error_after r.so_far r.rest r.whole)
+      rw (at, r.board) (error_after r.so_far r.rest r.whole)
 
-  ready_error : (c : Configured) (b : Device) → Ready x.depth c b → error_at (unsampled x b) ≡ error_by x 0
+  ready_error : (c : Configured) (b : Board) → Ready x.depth c b → error_at (unsampled x b) ≡ error_by x 0
   unfolding any_error
   ready_error c b r = rw (r.is, r.no_flag)
 
@@ -99,7 +99,7 @@ pub error_flag : (x : Scenario) → Provided x → All (λ m. error_at m ≡ err
 error_flag x p =
     let So : Moment → Type 0 = λ m. error_at m ≡ error_by x m.count in
     let calls = moments (set_up x) 0 x.calls in
-    all_append So (map (unsampled x) (devices (fresh_of x.depth) x.set_up_calls)) calls
+    all_append So (map (unsampled x) (boards (fresh_of x.depth) x.set_up_calls)) calls
     (each_unsampled x So (ready_error x p) _ _ x.set_up_calls (fresh_ready x.depth p.made))
     (all_map (Reached (start_bytes x) (set_up x) (trace x)) So (reached_error x p) calls (all_reached (start_bytes x) (set_up x) x.calls p.one_start))
 
@@ -160,7 +160,7 @@ error_at_some_moment x p = go (any_error (configured x).capture (trace x)) refl
     go : (b : Bool) → any_error (configured x).capture (trace x) ≡ b → at_some error_at (all_moments x) ≡ b
     go false calm = none_passes error_at (error_by x) (all_moments x) (error_flag x p) (calm_by x calm)
     go true rises =
-        let before = map (unsampled x) (devices (fresh_of x.depth) x.set_up_calls) in
+        let before = map (unsampled x) (boards (fresh_of x.depth) x.set_up_calls) in
         let calls = moments (set_up x) 0 x.calls in
         let whole : error_by x (0 + length (trace x)) ≡ true = rw (zero-add, take-length) rises in
         some_append error_at (error_by x) before calls

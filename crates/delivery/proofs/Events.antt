@@ -8,7 +8,7 @@ use Rattle.buffers.specs.Story.{Event, ended}
 use Rattle.buffers.specs.Kept.{Kept, keep, keeps}
 use Rattle.rules.specs.declared.Capture.{Capture}
 use Rattle.rules.specs.Sample.{capture_sample}
-use Rattle.two_memory_rules.specs.TwoBuffers.{landing_event, word_event, has_closed, frame_event, sample_events}
+use Rattle.board_rules.specs.TwoBuffers.{landing_event, word_event, has_closed, frame_event, sample_events}
 use Rattle.delivery.specs.Noted.{Turn, word_turn, turn_after, next_turn, Noted, note, words}
 use Rattle.delivery.proofs.Following.{answered, leaving, byte_after}
 use Rattle.delivery.proofs.Chain.{left, passed}

@@ -10,8 +10,8 @@ use lib.ListN.{replicate}
 use Rattle.output.specs.Output.{usual_depth}
 use Rattle.buffers.specs.declared.Buffer.{Buffer}
 use Rattle.buffers.specs.declared.Buffer.TheVariants.{A, B}
-use Rattle.two_memory_rules.specs.TwoBuffers.{Pair}
-use Rattle.two_memory_rules.specs.TwoRuns.{Both}
+use Rattle.board_rules.specs.TwoBuffers.{Pair}
+use Rattle.board_rules.specs.BoardRuns.{Both}
 use Rattle.delivery.specs.Calls.{SetUpCall, a_write, one_buffer, two_buffers, Starts, one_memory, two_memories, a_run, a_sample}
 use Rattle.delivery.specs.Noted.{Turn}
 use Rattle.delivery.specs.Delivery.{Scenario, set_up, noted_by, Premises, Promised, All, all_moments}
@@ -331,6 +331,6 @@ set_up_alone =
       lent = alone 0 [];
     }
 
-pub moments_alone : map (λ m. m.device.engine.core.capture.registers.cr) (all_moments set_up_alone) ≡ 0 ∷ 0x48E3 ∷ 0x48E3 ∷ 0x08E2 ∷ []
+pub moments_alone : map (λ m. m.board.device.core.capture.registers.cr) (all_moments set_up_alone) ≡ 0 ∷ 0x48E3 ∷ 0x48E3 ∷ 0x08E2 ∷ []
 unfolding outcome
 moments_alone = refl

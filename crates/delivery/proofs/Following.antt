@@ -14,11 +14,11 @@ use Rattle.samples.specs.Samples.{bus_grant}
 use Rattle.landing.specs.Landing.{Out, first_rule, take_in, put}
 use Rattle.landing.proofs.Beside.{offer_held}
 use Rattle.rules.specs.declared.Capture.{Capture}
-use Rattle.rules.specs.State.{engine}
+use Rattle.rules.specs.State.{device}
 use Rattle.rules.specs.Capture.{Captured, flagged, enabled}
 use Rattle.rules.specs.Sample.{capture_sample, next_capture}
-use Rattle.rules.specs.Effects.{placed}
-use Rattle.rules.specs.Step.{Completed, after_word, complete, after_grant, Stepped, step}
+use Rattle.rules.specs.RegisterCalls.{placed}
+use Rattle.rules.specs.Run.{Completed, after_word, complete, after_grant, Stepped, step}
 use Rattle.delivery.proofs.Inputs.{input}
 
 -- What a sample answers of its word where none is lost.
@@ -27,7 +27,7 @@ answered none = nothing
 answered (some v) = completed v
 
 complete_fits : (o : Option ℕ) (c : Captured) (x : OutputState) → c.error ≡ false → ((v : ℕ) → o ≡ some v → x.output.held < x.output.depth)
-    → complete o c x ≡ record { engine = engine (flagged c) (take_in o x); packed = answered o }
+    → complete o c x ≡ record { device = device (flagged c) (take_in o x); packed = answered o }
 unfolding complete after_word take_in
 complete_fits none c x quiet space = rw quiet
 complete_fits (some v) c x quiet space = let h : (offer v x).fate ≡ Held = ap (λ (r : Offered). r.fate) (offer_held v x (space v refl)) in rw h
@@ -104,9 +104,9 @@ pub step_fits : {on : Bool} (s : Capture) (o : Out) (vs : List ℕ) (p : ℕ) (b
     → contents o.state ≡ vs → Roomy vs o.state.output.place o.buffer → Roomy vs p b
     → ((v : ℕ) → (capture_sample s w).word ≡ some v → (first_rule on o (input s w)).state.output.held < (first_rule on o (input s w)).state.output.depth)
     → let l = leaving (bus_grant w && on) vs in
-    step (placed p (engine s o.state)) b w
+    step (placed p (device s o.state)) b w
     ≡ record {
-      engine = placed (place_after p l) (engine (next_capture s w) (put on o (input s w)).state);
+      device = placed (place_after p l) (device (next_capture s w) (put on o (input s w)).state);
       buffer = buffer_after p l b;
       landing = byte_after p l;
       packed = answered (capture_sample s w).word;
@@ -117,9 +117,9 @@ step_fits {on} s o vs p b w e quiet holds here there space =
     let l = leaving (bus_grant w && on) vs in
     let y = (first_rule on o (input s w)).state in
     let after : Granted → Stepped =
-    λ g. let r = complete c.word c g.state in record { engine = r.engine; buffer = g.buffer; landing = g.landing; packed = r.packed } in
-    let told : Completed → Stepped = λ r. record { engine = r.engine; buffer = buffer_after p l b; landing = byte_after p l; packed = r.packed } in
-    let done : OutputState → Stepped = λ x. told (record { engine = engine (flagged c) x; packed = answered c.word }) in
+    λ g. let r = complete c.word c g.state in record { device = r.device; buffer = g.buffer; landing = g.landing; packed = r.packed } in
+    let told : Completed → Stepped = λ r. record { device = r.device; buffer = buffer_after p l b; landing = byte_after p l; packed = r.packed } in
+    let done : OutputState → Stepped = λ x. told (record { device = device (flagged c) x; packed = answered c.word }) in
     rw e (ap after (grant_placed (bus_grant w) on (counted o.state) vs p o.buffer b holds here there))
     ∙ ap told (complete_fits c.word c (at_place (place_after p l) y) quiet space)
     ∙ ap done (take_in_placed c.word (place_after p l) y)

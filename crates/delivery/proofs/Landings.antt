@@ -12,7 +12,7 @@ use Rattle.buffers.specs.Story.{same_buffer}
 use Rattle.output.specs.Output.{OutputState, contents, with_held, holding, with_counts, with_place, count_landed, stored, no_landing, lands, oldest_lands, grant}
 use Rattle.output.proofs.Untouched.{offer_untouched}
 use Rattle.landing.specs.Landing.{take_in}
-use Rattle.two_memory_rules.specs.TwoRuns.{Lent, frame_buffer, refilled}
+use Rattle.board_rules.specs.BoardRuns.{Lent, frame_buffer, refilled}
 use Rattle.delivery.specs.Noted.{Noted, words}
 use Rattle.delivery.specs.Placed.{with_word, standing_at, with_noted}
 use Rattle.delivery.proofs.Following.{leaving, buffer_after, Roomy}

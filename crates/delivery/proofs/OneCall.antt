@@ -15,41 +15,38 @@ use Rattle.refusals.proofs.Accepted.{accepted as passed}
 use Rattle.bits.proofs.Booleans.{or_false}
 use Rattle.run_refusals.specs.RunRefusals.{run_tests}
 use Rattle.run_refusals.proofs.Passed.{passed as run_passed}
-use Rattle.rules.specs.declared.Engine.{Engine}
-use Rattle.rules.specs.WellFormed as engine_clauses
-use Rattle.output.specs.Output.{Packed, SampleAnswer}
-use Rattle.rules.specs.Step.{steps}
-use Rattle.rules.specs.Run.{run_refusal}
-use Rattle.rules.specs.Run as run_rules
 use Rattle.rules.specs.declared.Device.{Device}
-use Rattle.rules.specs.Device.{is_two, malformed}
-use Rattle.two_memory_rules.specs.TwoBuffers.{with_part, two_steps}
-use Rattle.two_memory_rules.specs.TwoRuns.{Both, beyond, memories, filled, two_refusal, with_buffers, TwoAnswer}
-use Rattle.rules.specs.Run.{run_refusal}
+use Rattle.rules.specs.WellFormed as device_clauses
+use Rattle.output.specs.Output.{Packed, SampleAnswer}
+use Rattle.rules.specs.Run.{steps, run_refusal}
 use Rattle.rules.specs.Run as run_rules
-use Rattle.two_memory_rules.specs.TwoRuns as two_runs
+use Rattle.board_rules.specs.declared.Board.{Board}
+use Rattle.board_rules.specs.State.{is_two, malformed}
+use Rattle.board_rules.specs.TwoBuffers.{with_part, two_steps}
+use Rattle.board_rules.specs.BoardRuns.{Both, beyond, memories, filled, one_refusal, two_refusal, opened, TwoAnswer}
+use Rattle.board_rules.specs.BoardRuns as board_runs
 use Rattle.delivery.proofs.Sampling.{sampled, packs, one_steps, as_one, Reaching, many_steps, as_two}
 use Rattle.delivery.specs.Calls.{one_memory, two_memories, Call, a_run, a_sample, starts_of, brings, System, lending, refusal_of, refusal, accepted, after_call, said, said_two, says}
 
 -- What an accepted call has passed: refusal 9, and over two memories it matches the mode.
-engine_passed : (d : Engine) (memory : List ℕ) (start : ℕ) (ws : List ℕ) → run_refusal d memory start ws ≡ 0 → start ≤ length memory
+device_passed : (d : Device) (memory : List ℕ) (start : ℕ) (ws : List ℕ) → run_refusal d memory start ws ≡ 0 → start ≤ length memory
 unfolding run_refusal
-engine_passed d memory start ws e =
-    ltb-false _ _ (run_passed (engine_clauses.bad_engine d) (ltb (length memory) start) d.core.output.counts.samples ws e).within
+device_passed d memory start ws e =
+    ltb-false _ _ (run_passed (device_clauses.malformed d) (ltb (length memory) start) d.core.output.counts.samples ws e).within
 
-one_passed : (b : Device) (memory : List ℕ) (start : ℕ) (ws : List ℕ) → run_refusal b memory start ws ≡ 0 → run_refusal b.engine memory start ws ≡ 0
-unfolding run_refusal
+one_passed : (b : Board) (memory : List ℕ) (start : ℕ) (ws : List ℕ) → one_refusal b memory start ws ≡ 0 → run_refusal b.device memory start ws ≡ 0
+unfolding one_refusal
 one_passed b memory start ws = go (malformed b) (is_two b.mode)
   where
-    go : (t u : Bool) → cond t 1 (cond u 16 (run_refusal b.engine memory start ws)) ≡ 0 → run_refusal b.engine memory start ws ≡ 0
+    go : (t u : Bool) → cond t 1 (cond u 16 (run_refusal b.device memory start ws)) ≡ 0 → run_refusal b.device memory start ws ≡ 0
     go true u e = absurd (omega arith)
     go false true e = absurd (omega arith)
     go false false e = e
 
-two_passed : (b : Device) (l : Both) (ws : List ℕ) → two_refusal b l ws ≡ 0 → (is_two b.mode ≡ true) × Reaching l
+two_passed : (b : Board) (l : Both) (ws : List ℕ) → two_refusal b l ws ≡ 0 → (is_two b.mode ≡ true) × Reaching l
 unfolding two_refusal
 two_passed b l ws e =
-    let tests = malformed b ⇒ 1 ∷ not (is_two b.mode) ⇒ 16 ∷ run_tests (beyond l.a || beyond l.b) b.engine.core.output.counts.samples ws in
+    let tests = malformed b ⇒ 1 ∷ not (is_two b.mode) ⇒ 16 ∷ run_tests (beyond l.a || beyond l.b) b.device.core.output.counts.samples ws in
     let (formed, (two, (fits, rest))) = passed tests (omega arith) e in
     let (a, c) = or_false (beyond l.a) (beyond l.b) fits in
     (not-false _ two, (ltb-false _ _ a, ltb-false _ _ c))
@@ -62,14 +59,14 @@ accepts s c = eqb (refusal s c) 0
 module _ (start : ℕ) (s : System) where
   abbrev one_left : Bool → List ℕ → System
   one_left b ws =
-      let r = steps s.device.engine (drop start s.memories.a) ws in
+      let r = steps s.board.device (drop start s.memories.a) ws in
       let memory = cond b (take start s.memories.a ++ r.buffer) s.memories.a in
-      record { device = cond b (record { engine = r.engine; mode = s.device.mode }) s.device; memories = with_part A memory s.memories }
+      record { board = cond b (record { device = r.device; mode = s.board.mode }) s.board; memories = with_part A memory s.memories }
 
-  one_call : (ws : List ℕ) (b : Bool) → eqb (run_refusal s.device s.memories.a start ws) 0 ≡ b → one_left b ws ≡ cond b (sampled (one_memory start) s ws) s
+  one_call : (ws : List ℕ) (b : Bool) → eqb (one_refusal s.board s.memories.a start ws) 0 ≡ b → one_left b ws ≡ cond b (sampled (one_memory start) s ws) s
   one_call ws true e =
       let n = one_passed _ _ _ ws (eqb-true _ 0 e) in
-      sym (ap (λ (r : System). sampled (one_memory start) r ws) (as_one start s) ∙ one_steps start s.memories _ _ _ ws (engine_passed _ _ _ ws n))
+      sym (ap (λ (r : System). sampled (one_memory start) r ws) (as_one start s) ∙ one_steps start s.memories _ _ _ ws (device_passed _ _ _ ws n))
   one_call ws false e = refl
 
 module _ (start_a start_b : ℕ) (s : System) where
@@ -78,20 +75,20 @@ module _ (start_a start_b : ℕ) (s : System) where
 
   abbrev two_left : Bool → List ℕ → System
   two_left b ws =
-      let x = two_steps (with_buffers s.device l) ws in
-      record { device = cond b (two_runs.without_buffers x) s.device; memories = cond b (filled l x.buffers) (memories l) }
+      let x = two_steps (opened s.board l) ws in
+      record { board = cond b (board_runs.board x) s.board; memories = cond b (filled l x.buffers) (memories l) }
 
-  two_call : (ws : List ℕ) (b : Bool) → eqb (two_refusal s.device l ws) 0 ≡ b → two_left b ws ≡ cond b (sampled (two_memories start_a start_b) s ws) s
+  two_call : (ws : List ℕ) (b : Bool) → eqb (two_refusal s.board l ws) 0 ≡ b → two_left b ws ≡ cond b (sampled (two_memories start_a start_b) s ws) s
   two_call ws true e =
       let (two, fits) = two_passed _ _ ws (eqb-true _ 0 e) in
       sym (ap (λ (r : System). sampled (two_memories start_a start_b) r ws) (as_two start_a start_b s two) ∙ many_steps l _ ws fits)
   two_call ws false e = refl
 
 pub after_call_is : (s : System) (c : Call) → after_call s c ≡ cond (accepts s c) (sampled (starts_of c) s (brings c)) s
-unfolding after_call refusal_of run_rules.run run_rules.sample two_runs.run_two two_runs.sample_two run_rules.run steps two_steps
-after_call_is s (a_run (one_memory start) ws) = go (eqb (run_refusal s.device s.memories.a start ws) 0) refl
+unfolding after_call refusal_of board_runs.run board_runs.sample board_runs.run_two board_runs.sample_two run_rules.run steps two_steps
+after_call_is s (a_run (one_memory start) ws) = go (eqb (one_refusal s.board s.memories.a start ws) 0) refl
   where
-    go : (b : Bool) → eqb (run_refusal s.device s.memories.a start ws) 0 ≡ b → after_call s (a_run (one_memory start) ws) ≡ cond b (sampled (one_memory start) s ws) s
+    go : (b : Bool) → eqb (one_refusal s.board s.memories.a start ws) 0 ≡ b → after_call s (a_run (one_memory start) ws) ≡ cond b (sampled (one_memory start) s ws) s
     go true e = rw (e, one_passed _ _ _ ws (eqb-true _ 0 e)) (one_call start s ws true e)
     go false e = rw e
 after_call_is s (a_sample (one_memory start) w) = one_call start s (w ∷ []) _ refl
@@ -118,7 +115,7 @@ chosen_two true number r p e = (refl, cc)
 chosen_two false number r p e = absurd (none_some e)
 
 pub call_says : (s : System) (c : Call) (p : Packed) → says s c ≡ some p → Says s c p
-unfolding says accepted refusal_of packs run_rules.sample two_runs.sample_two
+unfolding says accepted refusal_of packs board_runs.sample board_runs.sample_two
 call_says s (a_run t ws) p e = absurd (none_some e)
 call_says s (a_sample (one_memory start) w) p e =
     let (t, same) = chosen_says (accepts s (a_sample (one_memory start) w)) _ _ p e in

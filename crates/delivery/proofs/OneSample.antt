@@ -13,13 +13,13 @@ use Rattle.output.specs.Output.{OutputState, contents, count_sample, with_counts
 use Rattle.samples.specs.Samples.{bus_grant}
 use Rattle.landing.specs.Landing.{Out, put}
 use Rattle.rules.specs.declared.Capture.{Capture}
-use Rattle.rules.specs.State.{engine}
+use Rattle.rules.specs.State.{device}
 use Rattle.rules.specs.Sample.{capture_sample, next_capture}
-use Rattle.rules.specs.Effects.{placed}
-use Rattle.rules.specs.declared.Mode.{Mode}
-use Rattle.rules.specs.declared.Mode.TheVariants.{One, Two}
-use Rattle.rules.specs.Device.{is_two}
-use Rattle.two_memory_rules.specs.TwoRuns.{Both, lent}
+use Rattle.rules.specs.RegisterCalls.{placed}
+use Rattle.board_rules.specs.declared.Mode.{Mode}
+use Rattle.board_rules.specs.declared.Mode.TheVariants.{One, Two}
+use Rattle.board_rules.specs.State.{is_two}
+use Rattle.board_rules.specs.BoardRuns.{Both, lent}
 use Rattle.delivery.specs.Calls.{Starts, System, stepped}
 use Rattle.delivery.specs.Noted.{Turn, word_turn, next_turn, Noted, note, words}
 use Rattle.delivery.specs.Delivery.{All, Scenario, starts_in, Room}
@@ -78,7 +78,7 @@ module _ {on : Bool} (x : Scenario) (c : Capture) (o : Out) (t : Turn) (i w : �
       ∙ rw (landed, length-append)
 
   stands_in : (two : Bool) (m : Mode) (p : ℕ) (l : Both) (line : Turn) → is_two m ≡ two → Turning m p o.state.output.held line rest t
-      → ((u : Buffer) → lent u l ≡ told x u done) → Step on two (starts_in two l) x c o t i w (done ++ rest) (system (placed p (engine c o.state)) m l)
+      → ((u : Buffer) → lent u l ≡ told x u done) → Step on two (starts_in two l) x c o t i w (done ++ rest) (system (placed p (device c o.state)) m l)
   unfolding next_turn
   stands_in true One p l line mode g told_so all = absurd (false≢true mode)
   stands_in false (Two k) p l line mode g told_so all = absurd (true≢false mode)
@@ -135,7 +135,7 @@ sample_stands {on} {two} x c o t ns s i w f rooms held g =
     let done = g.done in
     let rest = g.rest in
     let from = starts_in two x.lent in
-    let now = system (placed g.place (engine c o.state)) g.mode g.both in
+    let now = system (placed g.place (device c o.state)) g.mode g.both in
     let long : length (words done) ≡ o.state.output.counts.landed = rw (length-map, g.landed) in
     let e : contents o.state ≡ words rest = held ∙ rw (g.whole, map-append) (drop_at (words done) (words rest) _ long) in
     let step = stands_in x c o t i w f done rest (rw g.whole at rooms) e g.landed two g.mode g.place g.both g.line g.is_mode g.turning g.told in

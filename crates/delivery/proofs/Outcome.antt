@@ -16,14 +16,12 @@ use Rattle.buffers.specs.Turns as turn_rules
 use Rattle.buffers.specs.Kept.{landed_at, keep, keeps}
 use Rattle.rules.specs.State.{output_of}
 use Rattle.rules.proofs.EveryRule.{every_rule}
-use Rattle.rules.specs.Device as device_state
-use Rattle.two_memory_rules.specs.TwoBuffers.{frame_event, sample_events, two_step, two_steps}
-use Rattle.rules.specs.RegisterCalls as register_rules
-use Rattle.rules.specs.Run as run_rules
-use Rattle.two_memory_rules.specs.TwoRuns as two_runs
-use Rattle.two_memory_rules.specs.TwoRuns.{Both, lent, frame_buffer, two_refusal, turns_of}
-use Rattle.rules.specs.Run.{run_refusal}
-use Rattle.delivery.specs.Calls.{SetUpCall, a_write, after_set_up, after_set_ups, devices, Starts, one_memory, two_memories, Call, a_run, starts_of, System, refusal_of, refusal, accepted, after_call, samples, stepped, moments_inside, moments}
+use Rattle.board_rules.specs.State as board_state
+use Rattle.board_rules.specs.TwoBuffers.{frame_event, sample_events, two_step, two_steps}
+use Rattle.board_rules.specs.BoardCalls as board_calls
+use Rattle.board_rules.specs.BoardRuns as board_runs
+use Rattle.board_rules.specs.BoardRuns.{Both, lent, frame_buffer, one_refusal, two_refusal, turns_of}
+use Rattle.delivery.specs.Calls.{SetUpCall, a_write, after_set_up, after_set_ups, boards, Starts, one_memory, two_memories, Call, a_run, starts_of, System, refusal_of, refusal, accepted, after_call, samples, stepped, moments_inside, moments}
 use Rattle.delivery.specs.Noted.{write_found, noted_write, with_mode, noted_set_up, noted_set_ups, word_turn, turn_after, next_turn, Noted, note, noted, any_error, spacing}
 use Rattle.delivery.specs.Delivery.{grants, Scenario, set_up, trace, configured, distance, noted_by, start_bytes, OneStart, Room, Provided, Premises, All, all_moments}
 
@@ -91,7 +89,7 @@ has_room x = each (fits x) (noted_by x (length (trace x)))
 abbrev pub has_grants : ℕ → ℕ → List ℕ → Bool
 has_grants w g xs = ltb (length xs) w || leb g (grants (take w xs))
 
--- The refusal numbers of all calls, in order, 0 of an accepted one; device and memories after them.
+-- The refusal numbers of all calls, in order, 0 of an accepted one; board and memories after them.
 unfoldable pub numbers : System → List Call → List ℕ
 numbers s [] = []
 numbers s (c ∷ cs) = refusal s c ∷ numbers (after_call s c) cs
@@ -100,17 +98,17 @@ unfoldable pub final : System → List Call → System
 final s [] = s
 final s (c ∷ cs) = final (after_call s c) cs
 
--- Every rule of a device, every definition of the calls and of the noted words, opened by one name each.
-unfoldable every_device_rule : Unit {0}
-unfolding turn_rules.fresh_turns turn_rules.with_turn turn_rules.with_tags turn_rules.with_place_b turn_rules.with_latest turn_rules.with_content turn_rules.first_word turn_rules.word_held turn_rules.discarded turn_rules.word_lost turn_rules.oldest_buffer turn_rules.oldest_opens turn_rules.oldest_place turn_rules.frame_over turn_rules.last_of_frame turn_rules.word_landed turn_rules.frame_ended landed_at keep keeps device_state.bad_turns device_state.malformed frame_event sample_events two_step two_steps register_rules.disabled register_rules.mode_after register_rules.write register_rules.set_mode run_refusal two_refusal turns_of run_rules.run run_rules.sample two_runs.run_two two_runs.sample_two
-every_device_rule = tt
+-- Every rule of a board, every definition of the calls and of the noted words, opened by one name each.
+unfoldable every_board_rule : Unit {0}
+unfolding turn_rules.fresh_turns turn_rules.with_turn turn_rules.with_tags turn_rules.with_place_b turn_rules.with_latest turn_rules.with_content turn_rules.first_word turn_rules.word_held turn_rules.discarded turn_rules.word_lost turn_rules.oldest_buffer turn_rules.oldest_opens turn_rules.oldest_place turn_rules.frame_over turn_rules.last_of_frame turn_rules.word_landed turn_rules.frame_ended landed_at keep keeps board_state.bad_turns board_state.malformed frame_event sample_events two_step two_steps board_calls.disabled board_calls.mode_after board_calls.write board_calls.set_mode one_refusal two_refusal turns_of board_runs.run board_runs.sample board_runs.run_two board_runs.sample_two
+every_board_rule = tt
 
 unfoldable every_note : Unit {0}
-unfolding after_set_up after_set_ups devices refusal_of accepted after_call samples stepped moments_inside moments write_found noted_write with_mode noted_set_up noted_set_ups word_turn turn_after next_turn note noted any_error spacing
+unfolding after_set_up after_set_ups boards refusal_of accepted after_call samples stepped moments_inside moments write_found noted_write with_mode noted_set_up noted_set_ups word_turn turn_after next_turn note noted any_error spacing
 every_note = tt
 
 -- Whether a scenario has these windows, its spacing, its calls' refusal numbers, how many moments and accepted samples it has, the numbers of the samples at which
--- words are noted, and of the engine at the end its counts, its held words and OVR; and whether ERR rises at a sample, by the capture rules.
+-- words are noted, and of the device at the end its counts, its held words and OVR; and whether ERR rises at a sample, by the capture rules.
 pub record Outcome : Type 0 where
   pub met : Bool
   pub distance : ℕ
@@ -126,9 +124,9 @@ pub record Outcome : Type 0 where
   pub error : Bool
 
 unfoldable pub outcome : ℕ → ℕ → Scenario → Outcome
-unfolding every_rule every_device_rule every_note numbers final grants
+unfolding every_rule every_board_rule every_note numbers final grants
 outcome w g x =
-    let d = (final (set_up x) x.calls).device.engine in
+    let d = (final (set_up x) x.calls).board.device in
     record {
       met = not (bad_depth x.depth) && (has_start x && (has_room x && tails (has_grants w g) (trace x)));
       distance = distance x;
@@ -220,7 +218,7 @@ periods (suc k) m n = replicate m true ++ replicate n false ++ periods k m n
 abbrev pub alone : ℕ → List ℕ → Both
 alone start memory = record { a = record { memory = memory; start = start }; b = record { memory = []; start = 0 } }
 
--- One run on an engine of some depth: a blank edge and then some samples; pixels with these grants; frames of one pixel.
+-- One run on a device of some depth: a blank edge and then some samples; pixels with these grants; frames of one pixel.
 abbrev pub one_run_of : ℕ → SetUpCall → List ℕ → Scenario
 one_run_of depth cr ws =
     record {

@@ -56,7 +56,7 @@ module _ (t : Starts) (s₀ : System) where
     pub so_far : List ℕ
     pub rest : List ℕ
     pub whole : trace ≡ so_far ++ rest
-    pub device : m.device ≡ (sampled t s₀ so_far).device
+    pub board : m.board ≡ (sampled t s₀ so_far).board
     pub memories : m.memories ≡ (sampled t s₀ so_far).memories
     pub count : m.count ≡ length so_far
     pub answers : (p : Packed) → m.packed ≡ some p → Answered so_far p
@@ -68,7 +68,7 @@ module _ (t : Starts) (s₀ : System) where
         so_far = xs;
         rest = zs;
         whole = refl;
-        device = ap (λ (r : System). r.device) a;
+        board = ap (λ (r : System). r.board) a;
         memories = ap (λ (r : System). r.memories) a;
         count = e;
         answers = said;

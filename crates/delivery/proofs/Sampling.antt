@@ -1,4 +1,4 @@
--- What some samples make, one after the other, with one start byte or two (W2): over one memory they are steps of the engine over one frame buffer, over two steps with two. The idea: a frame buffer put back in its
+-- What some samples make, one after the other, with one start byte or two (W2): over one memory they are steps of the device over one frame buffer, over two steps with two. The idea: a frame buffer put back in its
 -- memory is read again as it was put. Assumes nothing.
 use mathlib.Core.Bool.{true, false≢true}
 use mathlib.Core.List.{List, [], ◌∷◌, ◌++◌}
@@ -7,16 +7,16 @@ use Prim.Native.Nat.{ℕ, ◌≤◌}
 use lib.ListN.{length, take, drop, take-append-drop}
 use lib.Seq.{length-take-le, take_at, drop_at}
 use Rattle.buffers.specs.declared.Buffer.TheVariants.{A}
-use Rattle.rules.specs.declared.Engine.{Engine}
+use Rattle.rules.specs.declared.Device.{Device}
 use Rattle.output.specs.Output.{Packed}
-use Rattle.rules.specs.Step.{step, steps}
-use Rattle.rules.specs.declared.Mode.{Mode}
-use Rattle.rules.specs.declared.Mode.TheVariants.{One, Two}
-use Rattle.rules.specs.Device.{is_two}
-use Rattle.two_memory_rules.specs.TwoBuffers as buffer_rules
-use Rattle.two_memory_rules.specs.TwoBuffers.{Pair, with_part, two_step, two_steps}
-use Rattle.two_memory_rules.specs.TwoRuns.{Lent, Both, refilled, filled, turns_of, with_buffers}
-use Rattle.two_memory_rules.specs.TwoRuns as two_runs
+use Rattle.rules.specs.Run.{step, steps}
+use Rattle.board_rules.specs.declared.Mode.{Mode}
+use Rattle.board_rules.specs.declared.Mode.TheVariants.{One, Two}
+use Rattle.board_rules.specs.State.{is_two}
+use Rattle.board_rules.specs.TwoBuffers as buffer_rules
+use Rattle.board_rules.specs.TwoBuffers.{Pair, with_part, two_step, two_steps}
+use Rattle.board_rules.specs.BoardRuns.{Lent, Both, refilled, filled, turns_of, opened}
+use Rattle.board_rules.specs.BoardRuns as board_runs
 use Rattle.delivery.specs.Calls.{Starts, one_memory, two_memories, System, lending, stepped}
 
 -- What some samples make.
@@ -31,8 +31,8 @@ sampled_append t s (w ∷ ws) ys = sampled_append t (stepped t s w) ws ys
 
 -- What one answers of its word.
 unfoldable pub packs : Starts → System → ℕ → Packed
-packs (one_memory start) s w = (step s.device.engine (drop start s.memories.a) w).packed
-packs (two_memories start_a start_b) s w = (two_step (with_buffers s.device (lending start_a start_b s.memories)) w).packed
+packs (one_memory start) s w = (step s.board.device (drop start s.memories.a) w).packed
+packs (two_memories start_a start_b) s w = (two_step (opened s.board (lending start_a start_b s.memories)) w).packed
 
 -- A frame buffer put back in its memory, and read again.
 refilled_buffer : (l : Lent) (b : List ℕ) → l.start ≤ length l.memory → drop l.start (refilled l b) ≡ b
@@ -41,24 +41,24 @@ refilled_buffer l b fits = drop_at (take l.start l.memory) b l.start (length-tak
 refilled_again : (l : Lent) (b b' : List ℕ) → l.start ≤ length l.memory → take l.start (refilled l b) ++ b' ≡ refilled l b'
 refilled_again l b b' fits = rw (take_at (take l.start l.memory) b l.start (length-take-le _ _ fits))
 
--- Over one memory: the samples are steps of the engine over A's frame buffer.
+-- Over one memory: the samples are steps of the device over A's frame buffer.
 module _ (start : ℕ) (m : Pair) (mode : Mode) where
-  abbrev pub one_with : Engine → List ℕ → System
-  one_with d b = record { device = record { engine = d; mode = mode }; memories = with_part A (take start m.a ++ b) m }
+  abbrev pub one_with : Device → List ℕ → System
+  one_with d b = record { board = record { device = d; mode = mode }; memories = with_part A (take start m.a ++ b) m }
 
-  pub one_steps : (d : Engine) (b ws : List ℕ) → start ≤ length m.a → sampled (one_memory start) (one_with d b) ws ≡ one_with (steps d b ws).engine (steps d b ws).buffer
+  pub one_steps : (d : Device) (b ws : List ℕ) → start ≤ length m.a → sampled (one_memory start) (one_with d b) ws ≡ one_with (steps d b ws).device (steps d b ws).buffer
   unfolding sampled steps stepped
   one_steps d b [] fits = refl
   one_steps d b (w ∷ ws) fits =
       let l : Lent = record { memory = m.a; start = start } in
-      rw (refilled_buffer l b fits, refilled_again l b _ fits) (one_steps (step d b w).engine (step d b w).buffer ws fits)
+      rw (refilled_buffer l b fits, refilled_again l b _ fits) (one_steps (step d b w).device (step d b w).buffer ws fits)
 
-pub as_one : (start : ℕ) (s : System) → s ≡ one_with start s.memories s.device.mode s.device.engine (drop start s.memories.a)
+pub as_one : (start : ℕ) (s : System) → s ≡ one_with start s.memories s.board.mode s.board.device (drop start s.memories.a)
 as_one start s = rw (take-append-drop start s.memories.a)
 
 -- Over two: they are steps with two frame buffers.
 abbrev pub two_with : Both → buffer_rules.Two → System
-two_with l x = record { device = two_runs.without_buffers x; memories = filled l x.buffers }
+two_with l x = record { board = board_runs.board x; memories = filled l x.buffers }
 
 abbrev pub Reaching : Both → Type 0
 Reaching l = (l.a.start ≤ length l.a.memory) × (l.b.start ≤ length l.b.memory)
@@ -76,6 +76,6 @@ unfolding turns_of
 two_mode One e = absurd (false≢true e)
 two_mode (Two t) e = refl
 
-pub as_two : (start_a start_b : ℕ) (s : System) → is_two s.device.mode ≡ true
-    → let l = lending start_a start_b s.memories in s ≡ two_with l (with_buffers s.device l)
-as_two start_a start_b s e = rw (← two_mode s.device.mode e, take-append-drop start_a s.memories.a, take-append-drop start_b s.memories.b)
+pub as_two : (start_a start_b : ℕ) (s : System) → is_two s.board.mode ≡ true
+    → let l = lending start_a start_b s.memories in s ≡ two_with l (opened s.board l)
+as_two start_a start_b s e = rw (← two_mode s.board.mode e, take-append-drop start_a s.memories.a, take-append-drop start_b s.memories.b)

@@ -17,14 +17,14 @@ use Rattle.delivery.specs.Delivery.{Scenario, set_up, trace, configured, distanc
 use Rattle.delivery.proofs.Outcome.{tails, Windows, has_room, has_grants, final, Outcome, outcome, windows, provided, twelve_bits, eight_bits, coded, clocked, code, granting, pixels, every, periods, alone, one_run, padded_run}
 
 pub record Overruns (w g : ℕ) (noted : List ℕ) (m : ℕ) (x : Scenario) : Type 0 where
-  -- The engine was made, the samples have one start, there is room for all words, each w samples hold at least g grants, and ERR never rises.
+  -- The device was made, the samples have one start, there is room for all words, each w samples hold at least g grants, and ERR never rises.
   pub windows : Windows w g x
   pub no_error : any_error (configured x).capture (trace x) ≡ false
   -- Words are noted at these samples.
   pub words : map (λ n. n.sample) (noted_by x (length (trace x))) ≡ noted
   -- At the end OVR is up, and m words are lost.
-  pub overrun : bit 1 (final (set_up x) x.calls).device.engine.core.capture.registers.ris ≡ true
-  pub discarded : (final (set_up x) x.calls).device.engine.core.output.counts.discarded ≡ m
+  pub overrun : bit 1 (final (set_up x) x.calls).board.device.core.capture.registers.ris ≡ true
+  pub discarded : (final (set_up x) x.calls).board.device.core.output.counts.discarded ≡ m
 
 -- The outcome of a run of n samples with k words: l of them land, and the last is lost and takes the held ones, as many as the depth, with it: m together.
 abbrev last_lost : ℕ → ℕ → ℕ → ℕ → ℕ → Outcome
@@ -183,9 +183,9 @@ pub record Errs (m : ℕ) (x : Scenario) : Type 0 where
   pub provided : Provided x
   pub error : any_error (configured x).capture (trace x) ≡ true
   -- At the end ERR is up and OVR is not, and m words are lost.
-  pub flag : bit 2 (final (set_up x) x.calls).device.engine.core.capture.registers.ris ≡ true
-  pub no_overrun : bit 1 (final (set_up x) x.calls).device.engine.core.capture.registers.ris ≡ false
-  pub discarded : (final (set_up x) x.calls).device.engine.core.output.counts.discarded ≡ m
+  pub flag : bit 2 (final (set_up x) x.calls).board.device.core.capture.registers.ris ≡ true
+  pub no_overrun : bit 1 (final (set_up x) x.calls).board.device.core.capture.registers.ris ≡ false
+  pub discarded : (final (set_up x) x.calls).board.device.core.output.counts.discarded ≡ m
 
 -- A frame of one word, which is held when a line starts in the open line. The grants came before it.
 abbrev line_in_line : Scenario

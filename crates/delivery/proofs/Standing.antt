@@ -1,4 +1,4 @@
--- The system after some samples, in both modes (W2): the engine is the capture rules beside the output rules, but for its place; the first noted words have landed, each in its memory; and where the
+-- The system after some samples, in both modes (W2): the device is the capture rules beside the output rules, but for its place; the first noted words have landed, each in its memory; and where the
 -- next one lands is known (`Standing`). So there is room for it. Assumes nothing.
 use mathlib.Core.Bool.{Bool, true, false, false≢true}
 use mathlib.Core.List.{List, [], ◌∷◌, ◌++◌}
@@ -16,15 +16,15 @@ use Rattle.buffers.specs.Kept.{Kept}
 use Rattle.output.specs.Output.{OutputState, contents, room}
 use Rattle.landing.specs.Landing.{Out, first_rule}
 use Rattle.rules.specs.declared.Capture.{Capture}
-use Rattle.rules.specs.declared.Engine.{Engine}
-use Rattle.rules.specs.State.{engine}
+use Rattle.rules.specs.declared.Device.{Device}
+use Rattle.rules.specs.State.{device}
 use Rattle.rules.specs.Capture.{enabled}
 use Rattle.rules.specs.Sample.{capture_sample}
-use Rattle.rules.specs.Effects.{placed}
-use Rattle.rules.specs.declared.Mode.{Mode}
-use Rattle.rules.specs.declared.Mode.TheVariants.{One, Two}
-use Rattle.rules.specs.Device.{is_two}
-use Rattle.two_memory_rules.specs.TwoRuns.{Lent, Both, lent, memories, frame_buffer}
+use Rattle.rules.specs.RegisterCalls.{placed}
+use Rattle.board_rules.specs.declared.Mode.{Mode}
+use Rattle.board_rules.specs.declared.Mode.TheVariants.{One, Two}
+use Rattle.board_rules.specs.State.{is_two}
+use Rattle.board_rules.specs.BoardRuns.{Lent, Both, lent, memories, frame_buffer}
 use Rattle.delivery.specs.Calls.{System}
 use Rattle.delivery.specs.Noted.{Turn, Noted, words}
 use Rattle.delivery.specs.Placed.{standing_at, with_noted}
@@ -38,10 +38,10 @@ use Rattle.delivery.proofs.Tagged.{Tagged, oldest_in, oldest_at}
 use Rattle.delivery.proofs.Landings.{First}
 
 -- A system whose memories are those that a call lends.
-abbrev pub system : Engine → Mode → Both → System
-system d m l = record { device = record { engine = d; mode = m }; memories = memories l }
+abbrev pub system : Device → Mode → Both → System
+system d m l = record { board = record { device = d; mode = m }; memories = memories l }
 
--- What is kept in a mode of the words ns that have not landed: p is the engine's place, h the number of held words, l where the next word of the last landed one's frame goes, t the turn.
+-- What is kept in a mode of the words ns that have not landed: p is the device's place, h the number of held words, l where the next word of the last landed one's frame goes, t the turn.
 abbrev pub Turning : Mode → ℕ → ℕ → Turn → List Noted → Turn → Type 0
 Turning One p h l ns t = (l.buffer ≡ A) × (p ≡ l.number) × Chain false l ns t
 Turning (Two k) p h l ns t = Tagged (record { turns = k; place_a = p; held = h }) l ns t
@@ -55,7 +55,7 @@ pub record Standing (x : Scenario) (two : Bool) (c : Capture) (y : OutputState) 
   pub place : ℕ
   pub mode : Mode
   pub both : Both
-  pub is : s ≡ system (placed place (engine c y)) mode both
+  pub is : s ≡ system (placed place (device c y)) mode both
   pub is_mode : is_two mode ≡ two
   pub done : List Noted
   pub rest : List Noted

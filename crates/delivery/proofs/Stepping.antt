@@ -16,14 +16,14 @@ use Rattle.output.specs.Output.{contents, with_place}
 use Rattle.samples.specs.Samples.{bus_grant}
 use Rattle.landing.specs.Landing.{Out, put}
 use Rattle.rules.specs.declared.Capture.{Capture}
-use Rattle.rules.specs.declared.Engine.{Engine}
-use Rattle.rules.specs.State.{engine}
+use Rattle.rules.specs.declared.Device.{Device}
+use Rattle.rules.specs.State.{device}
 use Rattle.rules.specs.Sample.{capture_sample, next_capture}
-use Rattle.rules.specs.Effects.{placed}
-use Rattle.rules.specs.Step.{Stepped}
-use Rattle.rules.specs.declared.Mode.TheVariants.{One, Two}
-use Rattle.two_memory_rules.specs.TwoBuffers.{Pair, part, with_part, sample_events, two_step}
-use Rattle.two_memory_rules.specs.TwoRuns.{Lent, Both, lent, frame_buffer, refilled, buffers, filled, turns_of}
+use Rattle.rules.specs.RegisterCalls.{placed}
+use Rattle.rules.specs.Run.{Stepped}
+use Rattle.board_rules.specs.declared.Mode.TheVariants.{One, Two}
+use Rattle.board_rules.specs.TwoBuffers.{Pair, part, with_part, sample_events, two_step}
+use Rattle.board_rules.specs.BoardRuns.{Lent, Both, lent, frame_buffer, refilled, buffers, filled, turns_of}
 use Rattle.delivery.specs.Calls.{one_memory, two_memories, System, stepped}
 use Rattle.delivery.specs.Noted.{Noted, words}
 use Rattle.delivery.specs.Placed.{with_noted}
@@ -47,21 +47,21 @@ module _ {on : Bool} (c : Capture) (o : Out) (w p : ℕ) (l : Both) (ns : List N
   abbrev pub out : Option ℕ
   out = leaving (bus_grant w && on) (words ns)
 
-  abbrev pub engine' : Engine
-  engine' = engine (next_capture c w) (put on o (input c w)).state
+  abbrev pub device' : Device
+  device' = device (next_capture c w) (put on o (input c w)).state
 
   -- The system after a sample, in each mode, and what is answered.
   abbrev pub one_after : System
-  one_after = system (placed (place_after p out) engine') One (relent l (with_a (refilled l.a (buffer_after p out (frame_buffer l.a))) l))
+  one_after = system (placed (place_after p out) device') One (relent l (with_a (refilled l.a (buffer_after p out (frame_buffer l.a))) l))
 
   pub one_stepped : Roomy (words ns) p (frame_buffer l.a)
-      → let s = system (placed p (engine c o.state)) One l in
+      → let s = system (placed p (device c o.state)) One l in
       let t = one_memory l.a.start in
       (stepped t s w ≡ one_after) × (packs t s w ≡ answered (capture_sample c w).word)
   unfolding stepped packs
   one_stepped there =
       let r = step_fits c o (words ns) p (frame_buffer l.a) w f.enabled f.quiet e (f.roomy (words ns) e) there f.space in (
-        ap (λ (r : Stepped). system r.engine One (relent l (with_a (refilled l.a r.buffer) l))) r,
+        ap (λ (r : Stepped). system r.device One (relent l (with_a (refilled l.a r.buffer) l))) r,
         ap (λ (r : Stepped). r.packed) r,
       )
 
@@ -75,10 +75,10 @@ module _ {on : Bool} (c : Capture) (o : Out) (w p : ℕ) (l : Both) (ns : List N
     buffers' = with_part (oldest_buffer k) (buffer_after (oldest_place p k) out (part (oldest_buffer k) (buffers l))) (buffers l)
 
     abbrev pub two_after : System
-    two_after = system (placed kept'.place_a engine') (Two kept'.turns) (relent l (filled l buffers'))
+    two_after = system (placed kept'.place_a device') (Two kept'.turns) (relent l (filled l buffers'))
 
     pub two_stepped : Roomy (words ns) (oldest_place p k) (part (oldest_buffer k) (buffers l))
-        → let s = system (placed p (engine c o.state)) (Two k) l in
+        → let s = system (placed p (device c o.state)) (Two k) l in
         let t = two_memories l.a.start l.b.start in
         (stepped t s w ≡ two_after) × (packs t s w ≡ answered (capture_sample c w).word)
     unfolding stepped packs two_step turns_of with_place
@@ -87,7 +87,7 @@ module _ {on : Bool} (c : Capture) (o : Out) (w p : ℕ) (l : Both) (ns : List N
         let after : Stepped → System =
         λ r.
         let x = keeps (record { turns = k; place_a = p; held = o.state.output.held }) (sample_events c w r.landing r.packed) in
-        system (placed x.place_a r.engine) (Two x.turns) (relent l (filled l (with_part (oldest_buffer k) r.buffer (buffers l)))) in
+        system (placed x.place_a r.device) (Two x.turns) (relent l (filled l (with_part (oldest_buffer k) r.buffer (buffers l)))) in
         (ap after r, ap (λ (r : Stepped). r.packed) r)
 
 -- The memories after it.

@@ -1,4 +1,4 @@
--- Demand 3 (`delivery`), over every depth and spacing (W9) and both buffer modes (W2); `usual`: at the depth where none is named. The idea: the calls are one list of samples, over which the engine is the
+-- Demand 3 (`delivery`), over every depth and spacing (W9) and both buffer modes (W2); `usual`: at the depth where none is named. The idea: the calls are one list of samples, over which the device is the
 -- capture rules beside the output rules, and these land every word. Assumes nothing.
 use mathlib.Core.Bool.{false}
 use mathlib.Core.List.{List, [], ◌∷◌, ◌++◌, map}
@@ -11,14 +11,14 @@ use Rattle.buffers.specs.declared.Buffer.{Buffer}
 use Rattle.buffers.specs.declared.Buffer.TheVariants.{A, B}
 use Rattle.output.specs.Output.{usual_depth, bytes, contents, with_place, Packed}
 use Rattle.output.specs.WellFormed.{bad_depth}
-use Rattle.rules.specs.State.{engine}
-use Rattle.rules.specs.Effects.{placed}
+use Rattle.rules.specs.State.{device}
+use Rattle.rules.specs.RegisterCalls.{placed}
 use Rattle.registers.specs.Control.{embedded}
-use Rattle.rules.specs.Device.{fresh_of}
-use Rattle.rules.specs.declared.Device.{Device}
-use Rattle.two_memory_rules.specs.TwoBuffers.{Pair, part}
-use Rattle.two_memory_rules.specs.TwoRuns.{Lent, Both, lent, memories}
-use Rattle.delivery.specs.Calls.{devices, System, Moment, moments}
+use Rattle.board_rules.specs.BoardCalls.{fresh_of}
+use Rattle.board_rules.specs.declared.Board.{Board}
+use Rattle.board_rules.specs.TwoBuffers.{Pair, part}
+use Rattle.board_rules.specs.BoardRuns.{Lent, Both, lent, memories}
+use Rattle.delivery.specs.Calls.{boards, System, Moment, moments}
 use Rattle.delivery.specs.Noted.{first_turn, Noted, noted_at, any_error}
 use Rattle.delivery.specs.Placed.{standing_at}
 use Rattle.delivery.specs.Delivery.{grants, Scenario, set_up, trace, configured, distance, noted_by, start_bytes, OneStart, Room, Premises, Elsewhere, Promised, All, unsampled, all_moments, Delivery}
@@ -79,7 +79,7 @@ module _ (x : Scenario) (p : Premises x) where
       let g = standing x p.provided xs r.rest e (calm xs r.rest e) in
       let y = (out x xs).state in
       let at : take m.count (trace x) ≡ xs = rw (e, r.count) (take_at xs r.rest (length xs) refl) in
-      let here : m.device.engine ≡ placed g.place (engine (captures (first x) xs) y) = ap (λ (b : Device). b.engine) r.device ∙ ap (λ (s : System). s.device.engine) g.is in
+      let here : m.board.device ≡ placed g.place (device (captures (first x) xs) y) = ap (λ (b : Board). b.device) r.board ∙ ap (λ (s : System). s.board.device) g.is in
       let l = lands x p.provided xs r.rest e in
       let long : length g.done ≡ y.output.counts.landed = sym g.landed in
       let gone : take y.output.counts.landed (words_of x xs) ≡ g.done = rw g.whole (take_at g.done g.rest _ long) in
@@ -102,7 +102,7 @@ module _ (x : Scenario) (p : Premises x) where
 pub delivery : (x : Scenario) → Delivery x
 delivery x p =
     let calls = moments (set_up x) 0 x.calls in
-    all_append (Promised x) (map (unsampled x) (devices (fresh_of x.depth) x.set_up_calls)) calls
+    all_append (Promised x) (map (unsampled x) (boards (fresh_of x.depth) x.set_up_calls)) calls
     (each_promised x _ _ x.set_up_calls (fresh_ready x.depth p.provided.made))
     (all_map (Reached (start_bytes x) (set_up x) (trace x)) (Promised x) (promised x p) calls (all_reached (start_bytes x) (set_up x) x.calls p.provided.one_start))
 

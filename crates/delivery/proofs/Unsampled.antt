@@ -7,10 +7,10 @@ use lib.ListN.{length, length-append}
 use Rattle.buffers.specs.declared.Buffer.{Buffer}
 use Rattle.buffers.specs.declared.Buffer.TheVariants.{A, B}
 use Rattle.output.specs.Output.{with_held, holding, fresh_output, contents, laid}
-use Rattle.rules.specs.declared.Device.{Device}
-use Rattle.two_memory_rules.specs.TwoBuffers.{part}
-use Rattle.two_memory_rules.specs.TwoRuns.{lent, memories}
-use Rattle.delivery.specs.Calls.{SetUpCall, devices, Moment}
+use Rattle.board_rules.specs.declared.Board.{Board}
+use Rattle.board_rules.specs.TwoBuffers.{part}
+use Rattle.board_rules.specs.BoardRuns.{lent, memories}
+use Rattle.delivery.specs.Calls.{SetUpCall, boards, Moment}
 use Rattle.delivery.specs.Noted.{Configured, Noted, noted}
 use Rattle.delivery.specs.Placed.{with_noted}
 use Rattle.delivery.specs.Delivery.{Scenario, Promised, All, unsampled}
@@ -24,7 +24,7 @@ as_lent x B = refl
 no_word : (before : List Noted) (w : Noted) (after : List Noted) → [] ≡ before ++ w ∷ after → ⊥
 no_word before w after e = omega (arith, simp length-append at (ap length e))
 
-promised : {depth : ℕ} (x : Scenario) (c : Configured) (b : Device) → Ready depth c b → Promised x (unsampled x b)
+promised : {depth : ℕ} (x : Scenario) (c : Configured) (b : Board) → Ready depth c b → Promised x (unsampled x b)
 unfolding noted with_noted fresh_output holding with_held contents laid
 promised x c b r =
     record {
@@ -39,12 +39,12 @@ promised x c b r =
       answers = λ p e. absurd (none_some e);
     }
 
--- What holds of a device that is ready holds at each moment of the set-up.
-pub each_unsampled : {depth : ℕ} (x : Scenario) (P : Moment → Type 0) → ((c : Configured) (b : Device) → Ready depth c b → P (unsampled x b))
-    → (c : Configured) (b : Device) (cs : List SetUpCall) → Ready depth c b → All P (map (unsampled x) (devices b cs))
-unfolding devices
+-- What holds of a board that is ready holds at each moment of the set-up.
+pub each_unsampled : {depth : ℕ} (x : Scenario) (P : Moment → Type 0) → ((c : Configured) (b : Board) → Ready depth c b → P (unsampled x b))
+    → (c : Configured) (b : Board) (cs : List SetUpCall) → Ready depth c b → All P (map (unsampled x) (boards b cs))
+unfolding boards
 each_unsampled x P f c b [] r = (f c b r, tt)
 each_unsampled x P f c b (s ∷ cs) r = (f c b r, each_unsampled x P f _ _ cs (one_ready c b s r))
 
-pub each_promised : {depth : ℕ} (x : Scenario) (c : Configured) (b : Device) (cs : List SetUpCall) → Ready depth c b → All (Promised x) (map (unsampled x) (devices b cs))
+pub each_promised : {depth : ℕ} (x : Scenario) (c : Configured) (b : Board) (cs : List SetUpCall) → Ready depth c b → All (Promised x) (map (unsampled x) (boards b cs))
 each_promised x = each_unsampled x (Promised x) (promised x)

@@ -8,11 +8,11 @@ use Rattle.rules.specs.State.{output_of}
 use Rattle.output.specs.Output.{Packed, bytes, contents}
 use Rattle.samples.specs.Samples.{bus_grant}
 use Rattle.output.specs.WellFormed.{bad_depth}
-use Rattle.rules.specs.declared.Device.{Device}
-use Rattle.two_memory_rules.specs.TwoBuffers.{part}
-use Rattle.rules.specs.Device.{fresh_of}
-use Rattle.two_memory_rules.specs.TwoRuns.{Both, lent, frame_buffer, memories}
-use Rattle.delivery.specs.Calls.{SetUpCall, after_set_ups, devices, Starts, one_memory, two_memories, Call, starts_of, System, accepted, after_call, samples, Moment, moments}
+use Rattle.board_rules.specs.declared.Board.{Board}
+use Rattle.board_rules.specs.TwoBuffers.{part}
+use Rattle.board_rules.specs.BoardCalls.{fresh_of}
+use Rattle.board_rules.specs.BoardRuns.{Both, lent, frame_buffer, memories}
+use Rattle.delivery.specs.Calls.{SetUpCall, after_set_ups, boards, Starts, one_memory, two_memories, Call, starts_of, System, accepted, after_call, samples, Moment, moments}
 use Rattle.delivery.specs.Noted.{Configured, noted_set_ups, first_turn, Noted, noted, words, noted_at, any_error, spacing}
 use Rattle.delivery.specs.Placed.{standing_at, with_noted}
 
@@ -26,7 +26,7 @@ abbrev pub All : {A : Type 0} → (A → Type 0) → List A → Type 0
 All P [] = Unit {0}
 All P (x ∷ xs) = P x × All P xs
 
--- Everything that the claim is about: the depth that the engine is made with (W9), the set-up calls from reset, the runs and single samples, and the memories first lent, each with its one start byte: that of the
+-- Everything that the claim is about: the depth that the device is made with (W9), the set-up calls from reset, the runs and single samples, and the memories first lent, each with its one start byte: that of the
 -- accepted samples. With one buffer the memory is A.
 pub record Scenario : Type 0 where
   pub depth : ℕ
@@ -36,7 +36,7 @@ pub record Scenario : Type 0 where
 
 -- The bench after the set-up calls.
 abbrev pub set_up : Scenario → System
-set_up x = record { device = after_set_ups (fresh_of x.depth) x.set_up_calls; memories = memories x.lent }
+set_up x = record { board = after_set_ups (fresh_of x.depth) x.set_up_calls; memories = memories x.lent }
 
 -- The accepted samples of all calls.
 abbrev pub trace : Scenario → List ℕ
@@ -44,7 +44,7 @@ trace x = samples (set_up x) x.calls
 
 -- Capture state and mode after the set-up calls, by the register rules alone; the spacing that CR gives; and the words noted at the first n samples.
 abbrev pub configured : Scenario → Configured
-configured x = noted_set_ups (record { capture = (fresh_of x.depth).engine.core.capture; two = false }) x.set_up_calls
+configured x = noted_set_ups (record { capture = (fresh_of x.depth).device.core.capture; two = false }) x.set_up_calls
 
 abbrev pub distance : Scenario → ℕ
 distance x = spacing (configured x).capture.registers.cr
@@ -69,9 +69,9 @@ OneStart t s (c ∷ cs) = (0 < length (accepted s c) → starts_of c ≡ t) × O
 abbrev pub Room : Scenario → Noted → Type 0
 Room x w = 4 * w.turn.number + 4 ≤ length (frame_buffer (lent w.turn.buffer x.lent))
 
--- The premises on engine, calls, memories and grants.
+-- The premises on device, calls, memories and grants.
 pub record Provided (x : Scenario) : Type 0 where
-  -- W9: the engine was made: depth 1 to 32, refusal 18 otherwise.
+  -- W9: the device was made: depth 1 to 32, refusal 18 otherwise.
   pub made : bad_depth x.depth ≡ false
   -- The samples of accepted calls have one start byte, or with two buffers one in each memory (W2).
   pub one_start : OneStart (start_bytes x) (set_up x) x.calls
@@ -88,7 +88,7 @@ pub record Premises (x : Scenario) : Type 0 where
 
 -- How many words have landed at a moment.
 abbrev pub landed_at : Moment → ℕ
-landed_at m = m.device.engine.core.output.counts.landed
+landed_at m = m.board.device.core.output.counts.landed
 
 -- Another word's bytes are not this one's: it has another buffer or number. In one frame no two words have the same.
 abbrev pub Elsewhere : Noted → Noted → Type 0
@@ -97,15 +97,15 @@ Elsewhere w v = same_buffer w.turn.buffer v.turn.buffer && eqb w.turn.number v.t
 -- What is promised at a moment after n samples.
 pub record Promised (x : Scenario) (m : Moment) : Type 0 where
   -- Overrun has never risen, and no word is lost.
-  pub no_overrun : bit 1 m.device.engine.core.capture.registers.ris ≡ false
-  pub none_discarded : m.device.engine.core.output.counts.discarded ≡ 0
+  pub no_overrun : bit 1 m.board.device.core.capture.registers.ris ≡ false
+  pub none_discarded : m.board.device.core.output.counts.discarded ≡ 0
   -- Completed is how many words are noted.
-  pub completed : m.device.engine.core.output.counts.completed ≡ length (noted_by x m.count)
+  pub completed : m.board.device.core.output.counts.completed ≡ length (noted_by x m.count)
   -- The first of them, as many as landed counts, stand at their bytes, stored in order, and every other byte is as first lent; in each memory (W2).
   pub in_memory : (u : Buffer) → part u m.memories ≡ with_noted u (lent u x.lent).start (take (landed_at m) (noted_by x m.count)) (lent u x.lent).memory
   -- The rest are held, in order.
-  pub held : contents (output_of m.device.engine) ≡ drop (landed_at m) (words (noted_by x m.count))
-  pub split : landed_at m + m.device.engine.core.output.held ≡ length (noted_by x m.count)
+  pub held : contents (output_of m.board.device) ≡ drop (landed_at m) (words (noted_by x m.count))
+  pub split : landed_at m + m.board.device.core.output.held ≡ length (noted_by x m.count)
   -- W9: a word noted at sample t has landed if the samples have reached t + d·s.
   pub in_time :
       (before : List Noted) (w : Noted) (after : List Noted) → noted_by x m.count ≡ before ++ w ∷ after →
@@ -119,12 +119,12 @@ pub record Promised (x : Scenario) (m : Moment) : Type 0 where
   pub answers : (p : Packed) → m.packed ≡ some p → p ≡ noted_at m.count (noted_by x m.count)
 
 -- A moment before the first sample: no word is said, and the memories are those first lent.
-abbrev pub unsampled : Scenario → Device → Moment
-unsampled x b = record { device = b; memories = memories x.lent; count = 0; packed = none }
+abbrev pub unsampled : Scenario → Board → Moment
+unsampled x b = record { board = b; memories = memories x.lent; count = 0; packed = none }
 
--- The moments: of the fresh device and after each set-up call, then those of the runs and single samples.
+-- The moments: of the fresh board and after each set-up call, then those of the runs and single samples.
 abbrev pub all_moments : Scenario → List Moment
-all_moments x = map (unsampled x) (devices (fresh_of x.depth) x.set_up_calls) ++ moments (set_up x) 0 x.calls
+all_moments x = map (unsampled x) (boards (fresh_of x.depth) x.set_up_calls) ++ moments (set_up x) 0 x.calls
 
 -- Demand 3: at every moment, after every call and after every sample inside an accepted run.
 abbrev pub Delivery : Scenario → Type 0

@@ -14,9 +14,8 @@ use Rattle.rules.specs.Capture.{Captured, enabled}
 use Rattle.refusals.specs.Refusals.{first}
 use Rattle.rules.specs.Sample.{capture_sample, next_capture}
 use Rattle.output.specs.Output.{Packed, nothing, completed}
-use Rattle.rules.specs.Effects.{write_register}
-use Rattle.rules.specs.RegisterCalls.{register_tests}
-use Rattle.two_memory_rules.specs.TwoBuffers.{has_closed}
+use Rattle.rules.specs.RegisterCalls.{register_tests, write_register}
+use Rattle.board_rules.specs.TwoBuffers.{has_closed}
 use Rattle.delivery.specs.Calls.{SetUpCall, a_write, one_buffer, two_buffers}
 
 -- A register write by the register rules alone: refused by 2 to 6, or its effect.

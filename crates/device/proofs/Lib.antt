@@ -1,4 +1,0 @@
-pub mod Modes
-pub mod TwoLandings
-pub mod TwoMemories
-pub mod HandedParts

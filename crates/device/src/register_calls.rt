@@ -1,158 +1,219 @@
-// Register reads and writes, the interrupt line, re-arming and setting the mode.
-ghost use Rattle.std.specs.Prelude.{cond, ◌≡◌};
-ghost use Rattle.refusals.specs.declared.Outcome.TheVariants.{Refused};
-ghost use Rattle.buffers.specs.Turns as turn_rules;
-ghost use Rattle.engine.specs.Answers as engine_answers;
-ghost use Rattle.rules.specs.Effects as effects;
+// Register reads and writes, the interrupt line and re-arming.
+ghost use Rattle.std.specs.Prelude.{◌≡◌};
+ghost use Rattle.bits.specs.Tests.{number_if};
+ghost use Rattle.registers.specs.declared.Found.TheVariants.{At};
 ghost use Rattle.rules.specs.RegisterCalls as register_rules;
-ghost use Rattle.device.specs.Answers as call_answers;
+ghost use Rattle.device.specs.Answers as device_answers;
 
-use crate::{Changed, malformed};
-use buffers::Turns;
-use engine::{InterruptLine, Reading};
-use fields::control;
+use crate::control_writes::write_at;
+use crate::{Changed, InterruptLine, Reading};
+use capture::syncs::blanks;
+use coded_capture::coded_syncs;
+use fields::{control, map};
 use refusals::{Outcome, Refusal};
-use rules::{Device, Engine, Mode};
-use turning::{discarded, fresh_turns, rearmed};
+use registers::{Access, Found, Register};
+use rules::{Capture, Device, Syncs};
+use well_formed::malformed;
+
+fn number_if(t: bool, n: u32) -> u32
+    ensures { result ≡ number_if t n }
+{
+    if t {
+        return n;
+    }
+    0
+}
+
+// Whether each sync blanks, for SR: by the pins of the last sample, or with ESS 1 by the codes (W6).
+fn pin_syncs(s: Capture) -> Syncs
+    ensures { result ≡ register_rules.pin_syncs s }
+{
+    let cr = s.registers.cr;
+    let hsync = blanks(s.pins.hsync, control::hspol(cr));
+    let vsync = blanks(s.pins.vsync, control::vspol(cr));
+    Syncs { hsync, vsync }
+}
+
+fn shown_syncs(s: Capture) -> Syncs
+    ensures { result ≡ register_rules.shown_syncs s }
+{
+    if control::embedded(s.registers.cr) {
+        return coded_syncs(s);
+    }
+    pin_syncs(s)
+}
+
+// SR.
+fn status(d: Device) -> u32
+    ensures { result ≡ register_rules.status d }
+{
+    let shown = shown_syncs(d.core.capture);
+    let hsync = number_if(shown.hsync, 1);
+    let vsync = number_if(shown.vsync, 2);
+    let fne = number_if(0 < d.core.output.held, 4);
+    hsync + vsync + fne
+}
+
+// What a register reads as.
+fn value(d: Device, register: Register) -> u32
+    ensures { result ≡ register_rules.value d register }
+{
+    match register {
+        Register::Control => d.core.capture.registers.cr,
+        Register::Status => status(d),
+        Register::RawStatus => d.core.capture.registers.ris,
+        Register::InterruptEnable => d.core.capture.registers.ier,
+        Register::MaskedStatus => d.core.capture.registers.ris & d.core.capture.registers.ier,
+        Register::InterruptClear => 0,
+        Register::EmbeddedCode => d.core.capture.registers.escr,
+        Register::EmbeddedUnmask => d.core.capture.registers.esur,
+        Register::WindowStart => d.core.capture.registers.cwstrt,
+        Register::WindowSize => d.core.capture.registers.cwsize,
+    }
+}
+
+fn no_read(access: Access) -> bool
+    ensures { result ≡ register_rules.no_read access }
+{
+    match access {
+        Access::ReadWrite => false,
+        Access::ReadOnly => false,
+        Access::WriteOnly => true,
+    }
+}
+
+fn no_write(access: Access) -> bool
+    ensures { result ≡ register_rules.no_write access }
+{
+    match access {
+        Access::ReadWrite => false,
+        Access::ReadOnly => true,
+        Access::WriteOnly => false,
+    }
+}
 
 // A register read: refusals 1, 2, 3, or the value.
-pub fn read(b: Device, offset: u32) -> Reading
-    ensures { engine_answers.reading result ≡ register_rules.read b offset }
+pub fn read(d: Device, offset: u32) -> Reading
+    ensures { device_answers.reading result ≡ register_rules.read d offset }
 {
-    if malformed(b) {
+    if malformed(d) {
         return Reading::Refused(Refusal::Malformed);
     }
-    engine::read(b.engine, offset)
-}
-
-// The interrupt line is up exactly if MIS is not 0. Refusal 1.
-pub fn interrupt(b: Device) -> InterruptLine
-    ensures { engine_answers.line result ≡ register_rules.interrupt b }
-{
-    if malformed(b) {
-        return InterruptLine::Refused(Refusal::Malformed);
+    let found = map::at(offset);
+    let Found::At(register) = found else {
+        return Reading::Refused(Refusal::NoRegister);
+    };
+    if no_read(map::access(register)) {
+        return Reading::Refused(Refusal::AccessKind);
     }
-    engine::interrupt(b.engine)
+    Reading::Value(value(d, register))
 }
 
-fn refused(b: Device, refusal: Refusal) -> Changed
-    ensures { result ≡ record { device = b; outcome = Refused refusal } }
+// Refusal 5, of a write to a register.
+fn unsupported_at(register: Register, v: u32) -> bool
+    ensures { result ≡ register_rules.unsupported_at (At register) v }
 {
-    Changed {
-        device: b,
-        outcome: Outcome::Refused(refusal),
+    map::is_control(register) && control::unsupported(v)
+}
+
+// Whether a CR bit other than 0 and 14 would change.
+fn changes_setup(cr: u32, v: u32) -> bool
+    ensures { result ≡ register_rules.changes_setup cr v }
+{
+    if cr / 0x2 % 0x2000 != v / 0x2 % 0x2000 {
+        return true;
     }
+    cr / 0x8000 % 0x2_0000 != v / 0x8000 % 0x2_0000
 }
 
-// ENABLE went from 1 to 0.
-fn disabled(d: Engine, after: Engine) -> bool
-    ensures { result ≡ register_rules.disabled d after }
+fn fixed(cr: u32, register: Register, v: u32) -> bool
+    ensures { result ≡ register_rules.fixed cr register v }
 {
-    control::enable(d.core.capture.registers.cr)
-        && !control::enable(after.core.capture.registers.cr)
+    map::is_fixed(register) || (map::is_control(register) && changes_setup(cr, v))
 }
 
-fn discarded_if(falls: bool, turns: Turns) -> Turns
-    ensures { result ≡ cond falls (turn_rules.discarded turns) turns }
+// Refusal 6, of a write to a register.
+fn fixed_at(cr: u32, register: Register, v: u32) -> bool
+    ensures { result ≡ register_rules.fixed_at cr (At register) v }
 {
-    if falls {
-        return discarded(turns);
-    }
-    turns
-}
-
-fn mode_after(falls: bool, mode: Mode) -> Mode
-    ensures { result ≡ register_rules.mode_after falls mode }
-{
-    match mode {
-        Mode::One => Mode::One,
-        Mode::Two(turns) => Mode::Two(discarded_if(falls, turns)),
-    }
+    control::enable(cr) && fixed(cr, register, v)
 }
 
 // A register write: refusals 1 to 6 in order, or its effect.
-pub fn write(b: Device, offset: u32, value: u32) -> Changed
-    ensures { call_answers.changed result ≡ register_rules.write b offset value }
+pub fn write(d: Device, offset: u32, value: u32) -> Changed
+    ensures { device_answers.changed result ≡ register_rules.write d offset value }
 {
-    if malformed(b) {
-        return refused(b, Refusal::Malformed);
+    if malformed(d) {
+        return Changed {
+            device: d,
+            outcome: Outcome::Refused(Refusal::Malformed),
+        };
     }
-    let after = engine::write(b.engine, offset, value);
-    let outcome = after.outcome;
-    match outcome {
-        Outcome::Refused(refusal) => refused(b, refusal),
-        Outcome::Accepted => {
-            let engine = after.engine;
-            let before = b.mode;
-            let mode = mode_after(disabled(b.engine, engine), before);
-            Changed {
-                device: Device { engine, mode },
-                outcome: Outcome::Accepted,
-            }
-        }
+    let found = map::at(offset);
+    let Found::At(register) = found else {
+        return Changed {
+            device: d,
+            outcome: Outcome::Refused(Refusal::NoRegister),
+        };
+    };
+    if no_write(map::access(register)) {
+        return Changed {
+            device: d,
+            outcome: Outcome::Refused(Refusal::AccessKind),
+        };
+    }
+    if map::reserved_set(register, value) {
+        return Changed {
+            device: d,
+            outcome: Outcome::Refused(Refusal::ReservedBit),
+        };
+    }
+    if unsupported_at(register, value) {
+        return Changed {
+            device: d,
+            outcome: Outcome::Refused(Refusal::Unsupported),
+        };
+    }
+    if fixed_at(d.core.capture.registers.cr, register, value) {
+        return Changed {
+            device: d,
+            outcome: Outcome::Refused(Refusal::Enabled),
+        };
+    }
+    let after = write_at(d, register, value);
+    Changed {
+        device: after,
+        outcome: Outcome::Accepted,
     }
 }
 
-fn rearmed_mode(mode: Mode) -> Mode
-    ensures { result ≡ register_rules.rearmed_mode mode }
+// The interrupt line is up exactly if MIS is not 0. Refusal 1.
+pub fn interrupt(d: Device) -> InterruptLine
+    ensures { device_answers.line result ≡ register_rules.interrupt d }
 {
-    match mode {
-        Mode::One => Mode::One,
-        Mode::Two(turns) => Mode::Two(rearmed(turns)),
+    if malformed(d) {
+        return InterruptLine::Refused(Refusal::Malformed);
     }
+    if d.core.capture.registers.ris & d.core.capture.registers.ier != 0 {
+        return InterruptLine::Up;
+    }
+    InterruptLine::Down
 }
 
-fn rearmed_engine(d: Engine) -> Engine
-    ensures { result ≡ effects.rearmed d }
+// Re-arming: the next word goes to place 0. Refusal 1.
+pub fn rearm(d: Device) -> Changed
+    ensures { device_answers.changed result ≡ register_rules.rearm d }
 {
+    if malformed(d) {
+        return Changed {
+            device: d,
+            outcome: Outcome::Refused(Refusal::Malformed),
+        };
+    }
     let mut after = d;
     after.core.output.place = 0;
-    after
-}
-
-// Re-arming: every place is 0, and no frame is complete. Refusal 1.
-pub fn rearm(b: Device) -> Changed
-    ensures { call_answers.changed result ≡ register_rules.rearm b }
-{
-    if malformed(b) {
-        return refused(b, Refusal::Malformed);
-    }
-    let before = b.mode;
-    let engine = rearmed_engine(b.engine);
-    let mode = rearmed_mode(before);
     Changed {
-        device: Device { engine, mode },
+        device: after,
         outcome: Outcome::Accepted,
     }
-}
-
-// A mode is set: it re-arms. Refusals 1, 6.
-fn set_mode(mode: Mode, b: Device) -> Changed
-    ensures { call_answers.changed result ≡ register_rules.set_mode mode b }
-{
-    if malformed(b) {
-        return refused(b, Refusal::Malformed);
-    }
-    if control::enable(b.engine.core.capture.registers.cr) {
-        return refused(b, Refusal::Enabled);
-    }
-    let engine = rearmed_engine(b.engine);
-    Changed {
-        device: Device { engine, mode },
-        outcome: Outcome::Accepted,
-    }
-}
-
-// One frame buffer.
-pub fn one_buffer(b: Device) -> Changed
-    ensures { call_answers.changed result ≡ register_rules.one_buffer b }
-{
-    set_mode(Mode::One, b)
-}
-
-// Two frame buffers in turn: the first frame with a word goes to A.
-pub fn two_buffers(b: Device) -> Changed
-    ensures { call_answers.changed result ≡ register_rules.two_buffers b }
-{
-    set_mode(Mode::Two(fresh_turns()), b)
 }

@@ -1,35 +1,38 @@
-// The calls on an engine for callers in C, on numbers and bytes: what `dcmi` exports under the names of include/dcmi.h. An engine, with its buffer mode, is an image of 67 words that the caller
+// The calls on a device for callers in C, on numbers and bytes: what `dcmi` exports under the names of include/dcmi.h. A device, with its buffer mode, is an image of 67 words that the caller
 // owns. Each function answers 0 or a refusal number for every input, has no `requires`, and states its whole result, the image, the memory and the outputs that it leaves, as one
 // equation with a definition of `call_rules`; refused, all of them are as they were.
+#![tactic(auto)]
+
 ghost use Rattle.std.specs.Prelude.{cond, List, ◌≡◌, ℕ};
 ghost use Rattle.rules.specs.declared.Core.{Core};
-ghost use Rattle.engine.specs.Answers as engine_answers;
-ghost use Rattle.device.specs.Answers as call_answers;
+ghost use Rattle.device.specs.Answers as device_answers;
+ghost use Rattle.board.specs.Answers as call_answers;
 ghost use Rattle.output.specs.Answers as output_answers;
 ghost use Rattle.sampling.specs.Answers as sample_answers;
 ghost use Rattle.two_buffers.specs.Answers as two_answers;
-ghost use Rattle.rules.specs.Device as device_state;
-ghost use Rattle.rules.specs.Device.{in_one};
+ghost use Rattle.board_rules.specs.State as board_state;
+ghost use Rattle.board_rules.specs.BoardCalls.{in_one};
 ghost use Rattle.call_rules.specs.DeviceCalls as call_rules;
 
+use board::{Changed, Handed, TwoReply, TwoSampled};
+use board_rules::{Board, Mode};
+use board_words::{board_of, encodes, image_of};
 use buffers::Buffer;
-use device::{Changed, Handed, TwoReply, TwoSampled};
-use device_words::{device_of, encodes, image_of};
-use engine::{InterruptLine, Reading};
+use device::{InterruptLine, Reading};
 use output::{Landing, Packing};
 use refusals::Outcome;
-use rules::{Device, Engine, Mode};
+use rules::Device;
 use sampling::{SampledCore, sample_core};
 use two_buffers::TwoLanding;
 
-// The image after a call that changes the device.
+// The image after a call that changes the board.
 fn store(image: &mut [u32; 67], after: Changed) -> u32
     ensures { call_rules.called result image.new ≡ call_rules.changed image.old (call_answers.changed after) }
 {
     let outcome = after.outcome;
     match outcome {
         Outcome::Accepted => {
-            let b = after.device;
+            let b = after.board;
             *image = image_of(b);
             return 0;
         }
@@ -39,20 +42,20 @@ fn store(image: &mut [u32; 67], after: Changed) -> u32
     }
 }
 
-// A fresh engine.
+// A fresh device.
 pub fn reset(image: &mut [u32; 67]) -> u32
     ensures { call_rules.called result image.new ≡ call_rules.reset }
 {
-    let b = device::fresh();
+    let b = board::fresh();
     *image = image_of(b);
     0
 }
 
-// An engine made with a depth.
+// A device made with a depth.
 pub fn reset_depth(image: &mut [u32; 67], depth: u32) -> u32
     ensures { call_rules.called result image.new ≡ call_rules.reset_depth image.old depth }
 {
-    let after = device::made(depth);
+    let after = board::made(depth);
     store(image, after)
 }
 
@@ -62,7 +65,7 @@ pub fn write(image: &mut [u32; 67], offset: u32, value: u32) -> u32
 {
     let words = *image;
     if encodes(words) {
-        let after = device::write(device_of(words), offset, value);
+        let after = board::write(board_of(words), offset, value);
         return store(image, after);
     }
     1
@@ -74,7 +77,7 @@ pub fn rearm(image: &mut [u32; 67]) -> u32
 {
     let words = *image;
     if encodes(words) {
-        let after = device::rearm(device_of(words));
+        let after = board::rearm(board_of(words));
         return store(image, after);
     }
     1
@@ -86,7 +89,7 @@ pub fn one_buffer(image: &mut [u32; 67]) -> u32
 {
     let words = *image;
     if encodes(words) {
-        let after = device::one_buffer(device_of(words));
+        let after = board::one_buffer(board_of(words));
         return store(image, after);
     }
     1
@@ -98,14 +101,14 @@ pub fn two_buffers(image: &mut [u32; 67]) -> u32
 {
     let words = *image;
     if encodes(words) {
-        let after = device::two_buffers(device_of(words));
+        let after = board::two_buffers(board_of(words));
         return store(image, after);
     }
     1
 }
 
 fn put_reading(reading: Reading, value: &mut u32) -> u32
-    ensures { call_rules.gave result value.new ≡ call_rules.got value.old (engine_answers.reading reading) }
+    ensures { call_rules.gave result value.new ≡ call_rules.got value.old (device_answers.reading reading) }
 {
     match reading {
         Reading::Value(v) => {
@@ -124,14 +127,14 @@ pub fn read(image: &[u32; 67], offset: u32, value: &mut u32) -> u32
 {
     let words = *image;
     if encodes(words) {
-        let reading = device::read(device_of(words), offset);
+        let reading = board::read(board_of(words), offset);
         return put_reading(reading, value);
     }
     1
 }
 
 fn put_line(line: InterruptLine, level: &mut u32) -> u32
-    ensures { call_rules.gave result level.new ≡ call_rules.got_line level.old (engine_answers.line line) }
+    ensures { call_rules.gave result level.new ≡ call_rules.got_line level.old (device_answers.line line) }
 {
     match line {
         InterruptLine::Up => {
@@ -154,7 +157,7 @@ pub fn interrupt(image: &[u32; 67], level: &mut u32) -> u32
 {
     let words = *image;
     if encodes(words) {
-        let line = device::interrupt(device_of(words));
+        let line = board::interrupt(board_of(words));
         return put_line(line, level);
     }
     1
@@ -166,7 +169,7 @@ pub fn run(image: &mut [u32; 67], memory: &mut [u8], start: usize, samples: &[u3
 {
     let words = *image;
     if encodes(words) {
-        let after = device::run(device_of(words), memory, start, samples);
+        let after = board::run(board_of(words), memory, start, samples);
         return store(image, after);
     }
     1
@@ -185,8 +188,8 @@ pub fn run_two(
 {
     let words = *image;
     if encodes(words) {
-        let b = device_of(words);
-        let after = device::run_two(b, memory_a, start_a, memory_b, start_b, samples);
+        let b = board_of(words);
+        let after = board::run_two(b, memory_a, start_a, memory_b, start_b, samples);
         return store(image, after);
     }
     1
@@ -236,12 +239,12 @@ fn put_sampled(
     after: SampledCore,
     slots: [u32; 32],
 ) -> u32
-    ensures { (core : Core) (memory : List ℕ) → let a = sample_answers.sampled_core core after slots memory in call_rules.sample_called result image.new answer.new ≡ call_rules.sample_stored image.old answer.old a.answer (in_one a.engine) }
+    ensures { (core : Core) (memory : List ℕ) → let a = sample_answers.sampled_core core after slots memory in call_rules.sample_called result image.new answer.new ≡ call_rules.sample_stored image.old answer.old a.answer (in_one a.device) }
 {
     match after {
         SampledCore::Answered(core, landing, packing) => {
-            *image = image_of(Device {
-                engine: Engine { core, slots },
+            *image = image_of(Board {
+                device: Device { core, slots },
                 mode: Mode::One,
             });
             let landed = landed_word(landing);
@@ -269,11 +272,11 @@ pub fn sample(
 {
     let words = *image;
     if encodes(words) {
-        let b = device_of(words);
+        let b = board_of(words);
         let mode = b.mode;
         match mode {
             Mode::One => {
-                let d = b.engine;
+                let d = b.device;
                 let mut slots = d.slots;
                 let after = sample_core(d.core, &mut slots, memory, start, sample);
                 return put_sampled(image, answer, after, slots);
@@ -287,10 +290,10 @@ pub fn sample(
 }
 
 // Why a call over memories that do not match the mode is refused.
-fn unmatched_number(b: Device) -> u32
-    ensures { result ≡ cond (device_state.malformed b) 1 16 }
+fn unmatched_number(b: Board) -> u32
+    ensures { result ≡ cond (board_state.malformed b) 1 16 }
 {
-    if device::malformed(b) {
+    if board::malformed(b) {
         return 1;
     }
     16
@@ -324,12 +327,12 @@ fn byte_in_word(landing: TwoLanding) -> u64
 }
 
 fn put_two_sampled(image: &mut [u32; 67], answer: &mut [u64; 4], after: TwoSampled) -> u32
-    ensures { call_rules.sample_called result image.new answer.new ≡ call_rules.two_stored image.old answer.old (call_answers.two_reply after.reply) after.device }
+    ensures { call_rules.sample_called result image.new answer.new ≡ call_rules.two_stored image.old answer.old (call_answers.two_reply after.reply) after.board }
 {
     let reply = after.reply;
     match reply {
         TwoReply::Answered(landing, packing) => {
-            let b = after.device;
+            let b = after.board;
             *image = image_of(b);
             let landed = landed_in_word(landing);
             let byte = byte_in_word(landing);
@@ -358,8 +361,8 @@ pub fn sample_two(
 {
     let words = *image;
     if encodes(words) {
-        let b = device_of(words);
-        let after = device::sample_two(b, memory_a, start_a, memory_b, start_b, sample);
+        let b = board_of(words);
+        let after = board::sample_two(b, memory_a, start_a, memory_b, start_b, sample);
         return put_two_sampled(image, answer, after);
     }
     1
@@ -424,7 +427,7 @@ pub fn latest_frame(
 {
     let words = *image;
     if encodes(words) {
-        let handed = device::latest_frame(device_of(words), length_a, start_a, length_b, start_b);
+        let handed = board::latest_frame(board_of(words), length_a, start_a, length_b, start_b);
         return put_frame(handed, start_a, start_b, frame);
     }
     1

@@ -1,229 +1,288 @@
-// A device as an image of 67 words of 32 bits, for programs in other languages, and back: the engine's 58 (crate `engine_words`), and nine for the buffer mode (W2). The layout is that of
-// include/dcmi.h; each device has one image, and an image that encodes no device is told from those that do.
-ghost use Rattle.std.specs.Prelude.{◌≡◌, drop, take};
-ghost use Rattle.rules.specs.declared.Mode.TheVariants.{Two};
-ghost use Rattle.image_rules.specs.Image.{image_words};
-ghost use Rattle.image_rules.specs.DeviceImage as device_image;
+// A device as an image of 58 words of 32 bits, for programs in other languages, and back. The layout is that of include/dcmi.h; each device has one
+// image, and an image that encodes no device is told from those that do.
+#![tactic(auto)]
 
-use buffers::{Buffer, Content, Turns};
-use engine_words::{WORDS, flag, put};
-use rules::{Device, Mode};
+ghost use Rattle.std.specs.Prelude.{◌≡◌, ◌+◌, ◌≤◌, length, drop};
+ghost use Rattle.std.proofs.Math.Seq.{paste};
+ghost use Rattle.image_rules.specs.Image as image;
 
-// How many words there are.
-pub const BOARD_WORDS: usize = WORDS + 9;
+use codes::{Waiting, waiting_count};
+use output::{Counts, Output, SLOTS};
+use rules::{Capture, Core, Device, Frame, Partial, Pins, Registers, Scan, Syncs};
 
-fn buffer_word(u: Buffer) -> u32
-    ensures { result ≡ device_image.buffer_word u }
+// How many words there are; the index of the first slot, and that of the first word behind the slots.
+pub const WORDS: usize = 26 + SLOTS;
+
+const SLOT: usize = 16;
+
+const BEHIND: usize = 16 + SLOTS;
+
+pub fn flag(b: bool) -> u32
+    ensures { result ≡ image.flag b }
 {
-    match u {
-        Buffer::A => 0,
-        Buffer::B => 1,
+    if b {
+        return 1;
+    }
+    0
+}
+
+fn frame_word(f: Frame) -> u32
+    ensures { result ≡ image.frame_word f }
+{
+    match f {
+        Frame::Closed => 0,
+        Frame::Open(taken, _) => {
+            if taken {
+                return 2;
+            }
+            1
+        }
     }
 }
 
-fn content_word(c: Content) -> u32
-    ensures { result ≡ device_image.content_word c }
+fn lines_word(f: Frame) -> u32
+    ensures { result ≡ image.lines_word f }
 {
-    match c {
-        Content::Nothing => 0,
-        Content::Landing => 1,
-        Content::Complete => 2,
+    match f {
+        Frame::Closed => 0,
+        Frame::Open(_, scan) => scan.lines,
     }
 }
 
-fn turns_words(t: Turns) -> [u32; 9]
-    ensures { result ≡ device_image.mode_words (Two t) }
+fn pixels_word(f: Frame) -> u32
+    ensures { result ≡ image.pixels_word f }
 {
-    let turn = t.turn;
-    let a = t.a;
-    let b = t.b;
-    let latest = t.latest;
-    let turn_word = buffer_word(turn);
-    let begun = flag(t.begun);
-    let a_word = content_word(a);
-    let b_word = content_word(b);
-    let latest_word = buffer_word(latest);
+    match f {
+        Frame::Closed => 0,
+        Frame::Open(_, scan) => scan.pixels,
+    }
+}
+
+// A part put into words, from an index on.
+pub fn put(words: &mut [u32], at: usize, part: &[u32])
+    requires { at + length part.now ≤ length words.old }
+    ensures { words.new ≡ paste words.old at part.now (length part.now) }
+{
+    let mut i = 0;
+    while i < part.len() {
+        words[at + i] = part[i];
+        i += 1;
+    }
+}
+
+// The words before the slots.
+fn words_before(s: Capture) -> [u32; SLOT]
+    ensures { result ≡ image.words_before s }
+{
+    let registers = s.registers;
+    let pins = s.pins;
+    let syncs = s.syncs;
+    let frame = s.frame;
+    let partial = s.partial;
+    let hsync = flag(pins.hsync);
+    let vsync = flag(pins.vsync);
+    let clock = flag(pins.clock);
+    let hsync_blanked = flag(syncs.hsync);
+    let vsync_blanked = flag(syncs.vsync);
+    let open = frame_word(frame);
+    let lines = lines_word(frame);
+    let pixels = pixels_word(frame);
     [
-        1,
-        t.place,
-        t.in_b,
-        t.opening,
-        turn_word,
-        begun,
-        a_word,
-        b_word,
-        latest_word,
+        registers.cr,
+        registers.ris,
+        registers.ier,
+        registers.cwstrt,
+        registers.cwsize,
+        hsync,
+        vsync,
+        clock,
+        hsync_blanked,
+        vsync_blanked,
+        open,
+        lines,
+        pixels,
+        s.rate,
+        partial.count,
+        partial.bits,
     ]
 }
 
-fn mode_words(m: Mode) -> [u32; 9]
-    ensures { result ≡ device_image.mode_words m }
+// The words behind the slots.
+fn words_behind(s: Core) -> [u32; 10]
+    ensures { result ≡ image.words_behind s }
 {
-    match m {
-        Mode::One => [0, 0, 0, 0, 0, 0, 0, 0, 0],
-        Mode::Two(turns) => turns_words(turns),
-    }
+    let output = s.output;
+    let counts = output.counts;
+    let capture = s.capture;
+    let registers = capture.registers;
+    let waiting = capture.waiting;
+    let count = waiting_count(waiting);
+    [
+        output.held,
+        output.place,
+        counts.samples,
+        counts.completed,
+        counts.landed,
+        counts.discarded,
+        output.depth,
+        registers.escr,
+        registers.esur,
+        count,
+    ]
 }
 
 // The words of a device.
-pub fn image_of(b: Device) -> [u32; BOARD_WORDS]
-    ensures { result ≡ device_image.image_of b }
+pub fn image_of(d: Device) -> [u32; WORDS]
+    ensures { result ≡ image.image_of d }
 {
-    let mode = b.mode;
-    let engine = engine_words::image_of(b.engine);
-    let behind = mode_words(mode);
-    let mut words = [0; BOARD_WORDS];
-    put(&mut words, 0, &engine);
-    put(&mut words, WORDS, &behind);
+    let before = words_before(d.core.capture);
+    let behind = words_behind(d.core);
+    let slots = d.slots;
+    let mut words = [0; WORDS];
+    put(&mut words, 0, &before);
+    put(&mut words, BEHIND, &behind);
+    put(&mut words, SLOT, &slots);
     words
 }
 
-fn zeros_encode(a: u32, b: u32, c: u32, d: u32, e: u32, f: u32, g: u32, h: u32) -> bool
-    ensures { result ≡ device_image.zeros_encode a b c d e f g h }
+// The flags are 0 or 1.
+fn flags_encode(a: u32, b: u32, c: u32, d: u32, e: u32) -> bool
+    ensures { result ≡ image.flags_encode a b c d e }
 {
-    if a != 0 {
+    if 1 < a {
         return false;
     }
-    if b != 0 {
+    if 1 < b {
         return false;
     }
-    if c != 0 {
+    if 1 < c {
         return false;
     }
-    if d != 0 {
+    if 1 < d {
         return false;
     }
-    if e != 0 {
-        return false;
-    }
-    if f != 0 {
-        return false;
-    }
-    if g != 0 {
-        return false;
-    }
-    h == 0
+    e <= 1
 }
 
-fn turns_encode(turn: u32, begun: u32, a: u32, b: u32, latest: u32) -> bool
-    ensures { result ≡ device_image.turns_encode turn begun a b latest }
+// The frame is at most 2, and a closed one has no lines and no pixels.
+fn frame_encodes(frame: u32, lines: u32, pixels: u32) -> bool
+    ensures { result ≡ image.frame_encodes frame lines pixels }
 {
-    if 1 < turn {
+    if 2 < frame {
         return false;
     }
-    if 1 < begun {
+    if frame == 0 {
+        if lines == 0 {
+            return pixels == 0;
+        }
         return false;
     }
-    if 2 < a {
-        return false;
-    }
-    if 2 < b {
-        return false;
-    }
-    latest <= 1
-}
-
-// Whether the words behind the engine's encode a mode.
-fn mode_encodes(w: [u32; BOARD_WORDS]) -> bool
-    ensures { result ≡ device_image.mode_encodes (drop image_words w) }
-{
-    if w[WORDS] == 0 {
-        return zeros_encode(
-            w[WORDS + 1],
-            w[WORDS + 2],
-            w[WORDS + 3],
-            w[WORDS + 4],
-            w[WORDS + 5],
-            w[WORDS + 6],
-            w[WORDS + 7],
-            w[WORDS + 8],
-        );
-    }
-    if w[WORDS] == 1 {
-        return turns_encode(
-            w[WORDS + 4],
-            w[WORDS + 5],
-            w[WORDS + 6],
-            w[WORDS + 7],
-            w[WORDS + 8],
-        );
-    }
-    false
-}
-
-// The words of the engine.
-fn engine_part(w: [u32; BOARD_WORDS]) -> [u32; WORDS]
-    ensures { result ≡ take image_words w }
-{
-    let mut engine = [0; WORDS];
-    put(&mut engine, 0, &w[0..WORDS]);
-    engine
+    true
 }
 
 // Whether an image encodes a device.
-pub fn encodes(w: [u32; BOARD_WORDS]) -> bool
-    ensures { result ≡ device_image.encodes w }
+pub fn encodes(w: [u32; WORDS]) -> bool
+    ensures { result ≡ image.encodes w }
 {
-    if engine_words::encodes(engine_part(w)) {
-        return mode_encodes(w);
+    if flags_encode(w[5], w[6], w[7], w[8], w[9]) {
+        if frame_encodes(w[10], w[11], w[12]) {
+            return w[BEHIND + 9] <= 3;
+        }
+        return false;
     }
     false
 }
 
-fn buffer_of(x: u32) -> Buffer
-    ensures { result ≡ device_image.buffer_of x }
+fn frame_of(frame: u32, lines: u32, pixels: u32) -> Frame
+    ensures { result ≡ image.frame_of frame lines pixels }
 {
-    if x == 0 {
-        return Buffer::A;
+    if frame == 0 {
+        return Frame::Closed;
     }
-    Buffer::B
+    let taken = frame == 2;
+    Frame::Open(taken, Scan { lines, pixels })
 }
 
-fn content_of(x: u32) -> Content
-    ensures { result ≡ device_image.content_of x }
+fn waiting_of(count: u32) -> Waiting
+    ensures { result ≡ image.waiting_of count }
 {
-    if x == 0 {
-        return Content::Nothing;
+    if count == 0 {
+        return Waiting::Zero;
     }
-    if x == 1 {
-        return Content::Landing;
+    if count == 1 {
+        return Waiting::One;
     }
-    Content::Complete
+    if count == 2 {
+        return Waiting::Two;
+    }
+    Waiting::Three
 }
 
-fn turns_of(w: [u32; BOARD_WORDS]) -> Turns
-    ensures { result ≡ device_image.turns_of (drop image_words w) }
+// What the words before the slots say of the capture state, and the last three behind them.
+fn capture_of(w: [u32; WORDS]) -> Capture
+    ensures { result ≡ image.capture_of w (drop image.behind w) }
 {
-    let turn = buffer_of(w[WORDS + 4]);
-    let a = content_of(w[WORDS + 6]);
-    let b = content_of(w[WORDS + 7]);
-    let latest = buffer_of(w[WORDS + 8]);
-    Turns {
-        place: w[WORDS + 1],
-        in_b: w[WORDS + 2],
-        opening: w[WORDS + 3],
-        turn,
-        begun: w[WORDS + 5] == 1,
-        a,
-        b,
-        latest,
+    let registers = Registers {
+        cr: w[0],
+        ris: w[1],
+        ier: w[2],
+        cwstrt: w[3],
+        cwsize: w[4],
+        escr: w[BEHIND + 7],
+        esur: w[BEHIND + 8],
+    };
+    let pins = Pins {
+        hsync: w[5] == 1,
+        vsync: w[6] == 1,
+        clock: w[7] == 1,
+    };
+    let syncs = Syncs {
+        hsync: w[8] == 1,
+        vsync: w[9] == 1,
+    };
+    let frame = frame_of(w[10], w[11], w[12]);
+    let partial = Partial {
+        count: w[14],
+        bits: w[15],
+    };
+    let waiting = waiting_of(w[BEHIND + 9]);
+    Capture {
+        registers,
+        pins,
+        syncs,
+        frame,
+        rate: w[13],
+        partial,
+        waiting,
     }
 }
 
-fn mode_of(w: [u32; BOARD_WORDS]) -> Mode
-    ensures { result ≡ device_image.mode_of (drop image_words w) }
+// What the words behind the slots say of the output.
+fn output_of(w: [u32; WORDS]) -> Output
+    ensures { result ≡ image.output_of (drop image.behind w) }
 {
-    if w[WORDS] == 0 {
-        return Mode::One;
+    let counts = Counts {
+        samples: w[BEHIND + 2],
+        completed: w[BEHIND + 3],
+        landed: w[BEHIND + 4],
+        discarded: w[BEHIND + 5],
+    };
+    Output {
+        held: w[BEHIND],
+        place: w[BEHIND + 1],
+        depth: w[BEHIND + 6],
+        counts,
     }
-    Mode::Two(turns_of(w))
 }
 
 // The device of an image.
-pub fn device_of(w: [u32; BOARD_WORDS]) -> Device
-    ensures { result ≡ device_image.device_of w }
+pub fn device_of(w: [u32; WORDS]) -> Device
+    ensures { result ≡ image.device_of w }
 {
-    let engine = engine_words::engine_of(engine_part(w));
-    let mode = mode_of(w);
-    Device { engine, mode }
+    let capture = capture_of(w);
+    let output = output_of(w);
+    let mut slots = [0; SLOTS];
+    put(&mut slots, 0, &w[SLOT..BEHIND]);
+    let core = Core { capture, output };
+    Device { core, slots }
 }

@@ -1,6 +1,8 @@
 // Words on their way to memory, in code: rule 1, given the grant and ENABLE as truth values, and of rule 9 the count, the test for full, holding and discarding. Nothing here
 // knows of a camera. The slots are lent and the rest goes by value (docs/SPEED.md). The functions are for the crates of this repository, which call them on well-formed states;
 // each states its result as an equation with its definition, in `output`.
+#![tactic(auto)]
+
 ghost use Rattle.std.specs.Prelude.{◌≡◌, ℕ, ◌+◌, ◌-◌, ◌≤◌, ◌<◌, ◌^◌, true, List, ◌∷◌, ◌++◌, length, take, drop};
 ghost use Rattle.output.specs.Output as output_rules;
 ghost use Rattle.output.specs.WellFormed.{Laid};

@@ -4,15 +4,15 @@ use mathlib.Core.List.{List}
 use mathlib.Core.Path.{◌≡◌, ap, ◌∙◌}
 use Prim.Native.Nat.{ℕ}
 use Rattle.rules.specs.Run.{RunResult}
-use Rattle.engine.specs.Answers as engine_answers
-use Rattle.engine.specs.declared.Changed.{Changed as EngineChanged}
+use Rattle.device.specs.Answers as device_answers
+use Rattle.device.specs.declared.Changed.{Changed as DeviceChanged}
 use Rattle.trace_writer.specs.Answers as writer_answers
 use Rattle.trace_writer.specs.Writing.{WriteResult}
 use Rattle.trace_writer.specs.declared.Written.{Written as Encoding}
 use Rattle.call_rules.specs.DeviceCalls.{Called, called, run_called, Got, gave, got}
 use Rattle.file_calls.specs.FileCalls.{file_changed, file_ran, encoded}
 
-pub file_stored : {number : ℕ} {image' : List ℕ} {r : RunResult} (image memory' : List ℕ) (w : EngineChanged) → called number image' ≡ file_changed image (engine_answers.changed w) → engine_answers.ran w memory' ≡ r
+pub file_stored : {number : ℕ} {image' : List ℕ} {r : RunResult} (image memory' : List ℕ) (w : DeviceChanged) → called number image' ≡ file_changed image (device_answers.changed w) → device_answers.ran w memory' ≡ r
     → run_called number image' memory' ≡ file_ran image r
 file_stored image memory' w e f = ap (λ (x : Called). run_called x.number x.image memory') e ∙ ap (λ (x : RunResult). file_ran image x) f
 

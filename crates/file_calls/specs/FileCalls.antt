@@ -2,20 +2,20 @@
 use Rattle.std.specs.Prelude.{cond, List, [], ◌∷◌, ℕ, eqb}
 use Rattle.rules.specs.Answers as rule_answers
 use Rattle.rules.specs.Run as run_rules
-use Rattle.rules.specs.Device as device_state
+use Rattle.board_rules.specs.BoardCalls as board_calls
 use Rattle.trace_format.specs.declared.Write.{Write}
 use Rattle.trace_format.specs.Reading as reading
 use Rattle.trace_writer.specs.Writing as writing
 use Rattle.file_rules.specs.File as file_rules
-use Rattle.image_rules.specs.DeviceImage.{image_of}
+use Rattle.image_rules.specs.BoardImage.{image_of}
 use Rattle.call_rules.specs.DeviceCalls.{Called, RunCalled, Got, got}
 
--- A file needs no engine: its image is the one that the file leaves, in mode one, or, refused, as it was.
+-- A file needs no device: its image is the one that the file leaves, in mode one, or, refused, as it was.
 abbrev pub file_changed : List ℕ → rule_answers.Changed → Called
-file_changed image c = record { number = c.number; image = cond (eqb c.number 0) (image_of (device_state.in_one c.engine)) image }
+file_changed image c = record { number = c.number; image = cond (eqb c.number 0) (image_of (board_calls.in_one c.device)) image }
 
 abbrev pub file_ran : List ℕ → run_rules.RunResult → RunCalled
-file_ran image r = record { number = r.number; image = cond (eqb r.number 0) (image_of (device_state.in_one r.engine)) image; memory = r.memory }
+file_ran image r = record { number = r.number; image = cond (eqb r.number 0) (image_of (board_calls.in_one r.device)) image; memory = r.memory }
 
 unfoldable pub run_file : List ℕ → List ℕ → List ℕ → ℕ → RunCalled
 run_file image file memory start = file_ran image (file_rules.run_file file memory start)

@@ -1,28 +1,30 @@
 // The calls on trace files for callers in C, on numbers and bytes: what `dcmi` exports under the names of include/dcmi.h. Each function answers 0 or a refusal number for every input, has no
 // `requires`, and states its whole result, the image, the memory and the outputs that it leaves, as one equation with a definition of specs/; refused, all of them are as they were.
+#![tactic(auto)]
+
 ghost use Rattle.std.specs.Prelude.{◌≡◌};
-ghost use Rattle.engine.specs.Answers as engine_answers;
+ghost use Rattle.device.specs.Answers as device_answers;
 ghost use Rattle.trace_reader.specs.Answers as trace_answers;
 ghost use Rattle.trace_writer.specs.Answers as writer_answers;
 ghost use Rattle.trace_writer.specs.Writing as writing;
 ghost use Rattle.call_rules.specs.DeviceCalls as call_rules;
 ghost use Rattle.file_calls.specs.FileCalls as file_call_rules;
 
-use device_words::image_of;
+use board_rules::{Board, Mode};
+use board_words::image_of;
 use refusals::Outcome;
-use rules::{Device, Mode};
 use trace_reader::{Item, Read};
 
 // The image after a file, in mode one.
-fn store_engine(image: &mut [u32; 67], after: engine::Changed) -> u32
-    ensures { call_rules.called result image.new ≡ file_call_rules.file_changed image.old (engine_answers.changed after) }
+fn store_device(image: &mut [u32; 67], after: device::Changed) -> u32
+    ensures { call_rules.called result image.new ≡ file_call_rules.file_changed image.old (device_answers.changed after) }
 {
     let outcome = after.outcome;
     match outcome {
         Outcome::Accepted => {
-            let engine = after.engine;
-            *image = image_of(Device {
-                engine,
+            let device = after.device;
+            *image = image_of(Board {
+                device,
                 mode: Mode::One,
             });
             return 0;
@@ -33,15 +35,15 @@ fn store_engine(image: &mut [u32; 67], after: engine::Changed) -> u32
     }
 }
 
-// A trace file on a fresh engine, over the memory from the start byte on.
+// A trace file on a fresh device, over the memory from the start byte on.
 pub fn run_file(image: &mut [u32; 67], file: &[u8], memory: &mut [u8], start: usize) -> u32
     ensures { call_rules.run_called result image.new memory.new ≡ file_call_rules.run_file image.old file.now memory.old start }
 {
     let after = files::run_file(file, memory, start);
-    store_engine(image, after)
+    store_device(image, after)
 }
 
-// A trace file on an engine made with a depth.
+// A trace file on a device made with a depth.
 pub fn run_file_depth(
     image: &mut [u32; 67],
     depth: u32,
@@ -52,7 +54,7 @@ pub fn run_file_depth(
     ensures { call_rules.run_called result image.new memory.new ≡ file_call_rules.run_file_depth image.old depth file.now memory.old start }
 {
     let after = files::run_file_of(depth, file, memory, start);
-    store_engine(image, after)
+    store_device(image, after)
 }
 
 fn put_written(outcome: trace_writer::Written, length: &mut usize) -> u32

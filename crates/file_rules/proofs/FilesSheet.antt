@@ -4,7 +4,7 @@ use mathlib.Core.Path.{◌≡◌, refl}
 use Prim.Native.Nat.{ℕ}
 use lib.ListN.{replicate}
 use Rattle.numbers.specs.Numbers.{number, number_at}
-use Rattle.rules.specs.RegisterCalls.{no_engine}
+use Rattle.rules.specs.RegisterCalls.{no_device}
 use Rattle.rules.specs.Run.{RunResult}
 use Rattle.rules.proofs.EveryRule.{every_rule}
 use Rattle.trace_format.specs.Format.{version_for, count_size}
@@ -31,7 +31,7 @@ pub record Row : Type 0 where
 abbrev row : RunResult → Row
 row r =
     record {
-      numbers = r.number ∷ r.engine.core.output.counts.landed ∷ r.engine.core.capture.registers.ris ∷ r.engine.core.output.depth ∷ [];
+      numbers = r.number ∷ r.device.core.output.counts.landed ∷ r.device.core.capture.registers.ris ∷ r.device.core.output.depth ∷ [];
       memory = r.memory;
     }
 
@@ -47,15 +47,15 @@ pub files_sheet :
     leaves (0 ∷ 1 ∷ 0x19 ∷ 4 ∷ []) (0xAB ∷ 0x0A ∷ 0x1B ∷ 0x09 ∷ replicate 4 0xEE) ∷
     leaves (0 ∷ 1 ∷ 0x19 ∷ 4 ∷ []) (replicate 4 0xEE ++ 0xAB ∷ 0x0A ∷ 0x1B ∷ 0x09 ∷ []) ∷
     [])
-    -- 9 before 7; refused, there is no engine and the memory is as it was, also if the last sample was the bad one
-    × (run_file (file 1 8 (enabling ++ T ++ 0x04 ∷ [])) lent 9 ≡ record { number = 9; engine = no_engine; memory = lent })
-    × (run_file (file 1 8 (enabling ++ T ++ 0x04 ∷ [])) lent 0 ≡ record { number = 7; engine = no_engine; memory = lent })
+    -- 9 before 7; refused, there is no device and the memory is as it was, also if the last sample was the bad one
+    × (run_file (file 1 8 (enabling ++ T ++ 0x04 ∷ [])) lent 9 ≡ record { number = 9; device = no_device; memory = lent })
+    × (run_file (file 1 8 (enabling ++ T ++ 0x04 ∷ [])) lent 0 ≡ record { number = 7; device = no_device; memory = lent })
     -- the first refused write's number, before 9: CWSTRT behind enabling is 6, and so the offset without a register behind it is not answered
-    × (run_file (file 3 1 (enabling ++ 0x20 ∷ 0 ∷ 0 ∷ 0 ∷ 0 ∷ 0x40 ∷ 0 ∷ 0 ∷ 0 ∷ 0 ∷ 0 ∷ 0 ∷ 4 ∷ [])) lent 9 ≡ record { number = 6; engine = no_engine; memory = lent })
+    × (run_file (file 3 1 (enabling ++ 0x20 ∷ 0 ∷ 0 ∷ 0 ∷ 0 ∷ 0x40 ∷ 0 ∷ 0 ∷ 0 ∷ 0 ∷ 0 ∷ 0 ∷ 4 ∷ [])) lent 9 ≡ record { number = 6; device = no_device; memory = lent })
     × ((run_file (file 2 1 (0x20 ∷ 0 ∷ 0 ∷ 0 ∷ 0 ∷ enabling ++ 0 ∷ 0 ∷ 0 ∷ [])) lent 8).number ≡ 0)
     -- the form before the writes
-    × (run_file (file 1 1 (0x40 ∷ 0 ∷ 0 ∷ 0 ∷ 0 ∷ 0 ∷ 0 ∷ [])) lent 9 ≡ record { number = 13; engine = no_engine; memory = lent })
-    -- W9: "18, the first check where an engine is made"; the file is run on an engine of that depth
+    × (run_file (file 1 1 (0x40 ∷ 0 ∷ 0 ∷ 0 ∷ 0 ∷ 0 ∷ 0 ∷ [])) lent 9 ≡ record { number = 13; device = no_device; memory = lent })
+    -- W9: "18, the first check where a device is made"; the file is run on a device of that depth
     × (map (λ depth. row (run_file_of depth (1 ∷ 2 ∷ 3 ∷ []) lent 9)) (0 ∷ 33 ∷ 32 ∷ []) ≡ leaves (18 ∷ 0 ∷ 0 ∷ 0 ∷ []) lent ∷ leaves (18 ∷ 0 ∷ 0 ∷ 0 ∷ []) lent ∷ leaves (13 ∷ 0 ∷ 0 ∷ 0 ∷ []) lent ∷ [])
     × (row (run_file_of 1 (file 1 8 (enabling ++ T ++ 0x01 ∷ [])) lent 4) ≡ leaves (0 ∷ 1 ∷ 0x19 ∷ 1 ∷ []) (replicate 4 0xEE ++ 0xAB ∷ 0x0A ∷ 0x1B ∷ 0x09 ∷ []))
 unfolding every_rule version_for count_size number number_at same form_of write_at sample_at writes_from samples_from set_up run_on run_file_of

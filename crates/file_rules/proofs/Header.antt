@@ -12,7 +12,7 @@ use lib.ListN.{length, take, drop, get_or, set, length-set, replicate, take-appe
 use lib.Seq.{take-suc, drop-length, get_or-set_same, get_or-set_other}
 use borrow.Author.Tests.{lt-ltb, le-ltb, ltb-true, ltb-false, leb-true, eqb-true}
 use Rattle.numbers.specs.Numbers.{number_at}
-use Rattle.rules.specs.declared.Engine.{Engine}
+use Rattle.rules.specs.declared.Device.{Device}
 use Rattle.trace_format.specs.Format.{version_for, count_size, header_length, mark}
 use Rattle.trace_format.specs.Reading.{same, version_of, write_count, sample_count, whole, header_refusal, form_of}
 use Rattle.numbers.proofs.NumberAt.{number_at_suc}
@@ -42,13 +42,13 @@ pub mark_same : (h f : List ℕ) → Agree 3 h f → same (take 3 h) mark ≡ sa
 mark_same h f same = rw (mark_bytes h, mark_bytes f, same 0 (omega arith), same 1 (omega arith), same 2 (omega arith))
 
 -- k bytes of the file have come, all of the header.
-pub record Heading (start : ℕ) (d : Engine) (m f : List ℕ) (k : ℕ) (t : Taken) : Type 0 where
+pub record Heading (start : ℕ) (d : Device) (m f : List ℕ) (k : ℕ) (t : Taken) : Type 0 where
   pub head : List ℕ
   pub long : length head ≡ 10
   pub agree : Agree k head f
   pub is : t ≡ at head k no_item d 0 m
 
-module _ (start : ℕ) (d : Engine) (m f : List ℕ) where
+module _ (start : ℕ) (d : Device) (m f : List ℕ) where
   heading_on : (k : ℕ) (t : Taken) (g : Heading start d m f k t) → header_refusal g.head k ≡ 13 → k < header_length (version_of g.head) → k < 10
       → Heading start d m f (k + 1) (take_byte start t (get_or f k 0))
   heading_on k t g short inside low =

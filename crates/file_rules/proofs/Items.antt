@@ -1,4 +1,4 @@
--- The bytes of one write, and of one sample, behind a header that passes: all of them do what the whole item does, fewer leave engine and memory.
+-- The bytes of one write, and of one sample, behind a header that passes: all of them do what the whole item does, fewer leave device and memory.
 use mathlib.Core.List.{List, [], ◌∷◌}
 use mathlib.Core.Path.{◌≡◌, ◌∙◌}
 use Prim.Native.Nat.{ℕ, ◌+◌, ◌-◌, ◌%◌, ◌≤◌, ◌<◌}
@@ -6,7 +6,7 @@ use native.Mathlib.Omega.{arith}
 use lib.ListN.{length, set}
 use borrow.Author.Tests.{ne_eqb}
 use Rattle.numbers.specs.Numbers.{number_at}
-use Rattle.rules.specs.declared.Engine.{Engine}
+use Rattle.rules.specs.declared.Device.{Device}
 use Rattle.rules.specs.RegisterCalls.{write}
 use Rattle.rules.specs.Run.{run}
 use Rattle.trace_format.specs.Format.{header_length, write_size, sample_size, write_start}
@@ -24,7 +24,7 @@ five_of P (a ∷ b ∷ c ∷ d ∷ []) h f = absurd (omega arith)
 five_of P (a ∷ b ∷ c ∷ d ∷ e ∷ []) h f = f a b c d e
 five_of P (a ∷ b ∷ c ∷ d ∷ e ∷ g ∷ l) h f = absurd (omega arith)
 
-module _ (start : ℕ) (h : List ℕ) (passes : (n : ℕ) → header_length (version_of h) ≤ n → header_refusal h n ≡ 0) (d : Engine) (m : List ℕ) where
+module _ (start : ℕ) (h : List ℕ) (passes : (n : ℕ) → header_length (version_of h) ≤ n → header_refusal h n ≡ 0) (d : Device) (m : List ℕ) where
   -- Byte number j of write number k.
   module _ (k : ℕ) (inside : k < write_count h) where
     write_fills : (j : ℕ) (item : List ℕ) (b : ℕ) → j < 4 → take_byte start (at h (write_start (version_of h) k + j) item d 0 m) b ≡ at h (write_start (version_of h) k + (j + 1)) (set item j b) d 0 m
@@ -48,12 +48,12 @@ module _ (start : ℕ) (h : List ℕ) (passes : (n : ℕ) → header_length (ver
     -- All five of them: the write.
     pub one_write : (item : List ℕ) (a b c e g : ℕ) → length item ≡ 5
         → let bs = a ∷ b ∷ c ∷ e ∷ g ∷ [] in let r = write d (number_at bs 0 1) (number_at bs 1 4) in
-        take_bytes start (at h (write_start (version_of h) k) item d 0 m) bs ≡ at h (write_start (version_of h) (k + 1)) no_item r.engine r.number m
+        take_bytes start (at h (write_start (version_of h) k) item d 0 m) bs ≡ at h (write_start (version_of h) (k + 1)) no_item r.device r.number m
     unfolding take_bytes after_write
     one_write item a b c e g long =
         five_of
         (λ (l : List ℕ). let bs = a ∷ b ∷ c ∷ e ∷ g ∷ [] in let r = write d (number_at bs 0 1) (number_at bs 1 4) in
-        take_bytes start (at h (write_start (version_of h) k) l d 0 m) bs ≡ at h (write_start (version_of h) (k + 1)) no_item r.engine r.number m)
+        take_bytes start (at h (write_start (version_of h) k) l d 0 m) bs ≡ at h (write_start (version_of h) (k + 1)) no_item r.device r.number m)
         item long
         (λ i₀ i₁ i₂ i₃ i₄.
         let first : write_start (version_of h) k ≡ write_start (version_of h) k + 0 = omega arith in
@@ -89,12 +89,12 @@ module _ (start : ℕ) (h : List ℕ) (passes : (n : ℕ) → header_length (ver
     -- All three of them: a run of the sample.
     pub one_sample : (item : List ℕ) (a b c : ℕ) → length item ≡ 5
         → let r = run d m start (number_at (a ∷ b ∷ c ∷ []) 0 sample_size ∷ []) in
-        take_bytes start (at h (sample_start h k) item d 0 m) (a ∷ b ∷ c ∷ []) ≡ at h (sample_start h (k + 1)) no_item r.engine r.number r.memory
+        take_bytes start (at h (sample_start h k) item d 0 m) (a ∷ b ∷ c ∷ []) ≡ at h (sample_start h (k + 1)) no_item r.device r.number r.memory
     unfolding take_bytes after_sample number_at
     one_sample item a b c long =
         five_of
         (λ (l : List ℕ). let r = run d m start (number_at (a ∷ b ∷ c ∷ []) 0 sample_size ∷ []) in
-        take_bytes start (at h (sample_start h k) l d 0 m) (a ∷ b ∷ c ∷ []) ≡ at h (sample_start h (k + 1)) no_item r.engine r.number r.memory)
+        take_bytes start (at h (sample_start h k) l d 0 m) (a ∷ b ∷ c ∷ []) ≡ at h (sample_start h (k + 1)) no_item r.device r.number r.memory)
         item long
         (λ i₀ i₁ i₂ i₃ i₄.
         let first : sample_start h k ≡ sample_start h k + 0 = omega arith in

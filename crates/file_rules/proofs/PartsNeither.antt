@@ -1,5 +1,5 @@
 -- Request W8: of the runs that the parts of a file make none is refused with 1 or 8, and no write is with 1: the number that is remembered is neither, whatever has come.
--- The idea: bytes leave the engine well-formed; a sample takes three bytes behind the writes, so that no more are counted than the header says.
+-- The idea: bytes leave the device well-formed; a sample takes three bytes behind the writes, so that no more are counted than the header says.
 use mathlib.Core.Bool.{false, not}
 use mathlib.Core.List.{List, [], ◌∷◌}
 use mathlib.Core.Path.{◌≡◌, refl}
@@ -10,10 +10,9 @@ use lib.ListN.{drop, get_or, set, replicate}
 use borrow.Author.Tests.{eqb-true, ltb-true, ltb-false}
 use Rattle.numbers.specs.Numbers.{number_at}
 use Rattle.bits.proofs.Booleans.{by_cond, either}
-use Rattle.rules.specs.declared.Engine.{Engine}
-use Rattle.rules.specs.Step.{steps}
-use Rattle.rules.specs.Run.{run_refusal, run}
-use Rattle.rules.specs.WellFormed.{bad_engine}
+use Rattle.rules.specs.declared.Device.{Device}
+use Rattle.rules.specs.Run.{run_refusal, run, steps}
+use Rattle.rules.specs.WellFormed.{malformed}
 use Rattle.laws.proofs.Keeps.{run_keeps}
 use Rattle.laws.proofs.KeepsSample.{step_samples}
 use Rattle.laws.proofs.KeepsWrites.{write_keeps}
@@ -44,10 +43,10 @@ bytes_zero (suc n) zero = omega arith
 bytes_zero (suc n) (suc i) = bytes_zero n i
 
 -- A run of one sample counts at most one.
-one_more : (d : Engine) (m : List ℕ) (start w : ℕ) → (run d m start (w ∷ [])).engine.core.output.counts.samples ≤ d.core.output.counts.samples + 1
+one_more : (d : Device) (m : List ℕ) (start w : ℕ) → (run d m start (w ∷ [])).device.core.output.counts.samples ≤ d.core.output.counts.samples + 1
 unfolding run steps
 one_more d m start w =
-    either (λ (x : Engine). x.core.output.counts.samples ≤ d.core.output.counts.samples + 1) (eqb (run_refusal d m start (w ∷ [])) 0)
+    either (λ (x : Device). x.core.output.counts.samples ≤ d.core.output.counts.samples + 1) (eqb (run_refusal d m start (w ∷ [])) 0)
     (omega (arith, step_samples d (drop start m) w))
     (omega arith)
 
@@ -55,8 +54,8 @@ one_more d m start w =
 record Sound (s : State) : Type 0 where
   head : AreBytes s.head
   item : AreBytes s.item
-  well : bad_engine s.engine ≡ false
-  count : sample_size * s.engine.core.output.counts.samples ≤ s.taken - sample_start s.head 0
+  well : malformed s.device ≡ false
+  count : sample_size * s.device.core.output.counts.samples ≤ s.taken - sample_start s.head 0
   number : Neither s.number
 
 module _ (start : ℕ) (b : ℕ) (small : b < 256) where
@@ -74,9 +73,9 @@ module _ (start : ℕ) (b : ℕ) (small : b < 256) where
       record {
         head = g.head;
         item = bytes_zero 5;
-        well = write_keeps s.engine offset v fits g.well;
-        count = rw (write_samples s.engine offset v) (omega (arith, g.count));
-        number = write_neither s.engine offset v g.well;
+        well = write_keeps s.device offset v fits g.well;
+        count = rw (write_samples s.device offset v) (omega (arith, g.count));
+        number = write_neither s.device offset v g.well;
       })
       (λ _. record { head = g.head; item = put; well = g.well; count = omega (arith, g.count); number = g.number })
 
@@ -90,13 +89,13 @@ module _ (start : ℕ) (b : ℕ) (small : b < 256) where
       by_cond (λ (u : Taken). Sound u.state) (eqb (place + 1) sample_size) _ _
       (λ last.
       let third : place + 1 ≡ 3 = eqb-true (place + 1) 3 last in
-      let room : sample_size * (s.engine.core.output.counts.samples + 1) ≤ s.taken + 1 - sample_start s.head 0 = omega (arith, g.count) in
+      let room : sample_size * (s.device.core.output.counts.samples + 1) ≤ s.taken + 1 - sample_start s.head 0 = omega (arith, g.count) in
       record {
         head = g.head;
         item = bytes_zero 5;
-        well = run_keeps s.engine t.memory start (w ∷ []) g.well;
-        count = omega (arith, one_more s.engine t.memory start w);
-        number = run_neither s.engine t.memory start (w ∷ []) g.well (omega (arith, count_below s.head g.head));
+        well = run_keeps s.device t.memory start (w ∷ []) g.well;
+        count = omega (arith, one_more s.device t.memory start w);
+        number = run_neither s.device t.memory start (w ∷ []) g.well (omega (arith, count_below s.head g.head));
       })
       (λ _. record { head = g.head; item = put; well = g.well; count = omega (arith, g.count); number = g.number })
 
@@ -110,7 +109,7 @@ module _ (start : ℕ) (b : ℕ) (small : b < 256) where
       by_cond P (ltb s.taken (header_length (version_of s.head))) _ _
       (λ e.
       let short : s.taken < header_length (version_of s.head) = ltb-true _ _ e in
-      let none : s.engine.core.output.counts.samples ≡ 0 = omega (arith, g.count) in
+      let none : s.device.core.output.counts.samples ≡ 0 = omega (arith, g.count) in
       record { head = bytes_set s.head s.taken b small g.head; item = g.item; well = g.well; count = rw none (omega arith); number = g.number })
       (λ _.
       let counts : P counted_only = record { head = g.head; item = g.item; well = g.well; count = omega (arith, g.count); number = g.number } in
@@ -125,8 +124,8 @@ unfolding take_bytes
 bytes_sound start t [] bytes g = g
 bytes_sound start t (b ∷ bs) bytes g = bytes_sound start (take_byte start t b) bs (λ i. bytes (suc i)) (byte_sound start b (bytes 0) t g)
 
--- The law, on an engine that is not malformed and has counted no sample: after any parts, and at the end of the file.
-module _ (d : Engine) (parts : List (List ℕ)) (m : List ℕ) (start : ℕ) (bytes : (i : ℕ) → get_or (joined parts) i 0 < 256) (well : bad_engine d ≡ false) (none : d.core.output.counts.samples ≡ 0) where
+-- The law, on a device that is not malformed and has counted no sample: after any parts, and at the end of the file.
+module _ (d : Device) (parts : List (List ℕ)) (m : List ℕ) (start : ℕ) (bytes : (i : ℕ) → get_or (joined parts) i 0 < 256) (well : malformed d ≡ false) (none : d.core.output.counts.samples ≡ 0) where
   pub never_remembered : Neither (take_parts start (record { state = opened d; memory = m }) parts).state.number
   unfolding opened
   never_remembered =

@@ -34,7 +34,7 @@ pub record Row : Type 0 where
   pub memory : List ℕ
 
 abbrev row : RunResult → Row
-row r = record { number = r.number; landed = r.engine.core.output.counts.landed; memory = r.memory }
+row r = record { number = r.number; landed = r.device.core.output.counts.landed; memory = r.memory }
 
 abbrev by : ℕ → List (List ℕ) → Row
 by start parts = row (run_parts fresh parts (replicate 8 0) start)

@@ -11,10 +11,9 @@ use borrow.Author.Tests.{lt-ltb, le-ltb, ltb-true, ltb-false, eqb-false}
 use Rattle.bits.proofs.Booleans.{by_cond, either}
 use Rattle.run_refusals.proofs.Passed.{passed}
 use Rattle.samples.specs.Samples.{bad_sample, any_bad}
-use Rattle.rules.specs.declared.Engine.{Engine}
-use Rattle.rules.specs.WellFormed.{bad_engine}
-use Rattle.rules.specs.Step.{step, steps}
-use Rattle.rules.specs.Run.{run_refusal, RunResult, run}
+use Rattle.rules.specs.declared.Device.{Device}
+use Rattle.rules.specs.WellFormed.{malformed}
+use Rattle.rules.specs.Run.{step, steps, run_refusal, RunResult, run}
 use Rattle.rules.proofs.WellFormed.{facts, well_formed}
 use Rattle.laws.proofs.KeepsSample.{step_keeps, step_samples}
 
@@ -24,18 +23,18 @@ by_bool true holds fails = holds refl
 by_bool false holds fails = fails refl
 
 -- Runs of one sample, up to the first that is refused.
-unfoldable pub singles : ℕ → Engine → List ℕ → List ℕ → RunResult
-singles start d m [] = record { number = 0; engine = d; memory = m }
+unfoldable pub singles : ℕ → Device → List ℕ → List ℕ → RunResult
+singles start d m [] = record { number = 0; device = d; memory = m }
 singles start d m (w ∷ ws) =
     let r = run d m start (w ∷ []) in
-    cond (eqb r.number 0) (singles start r.engine r.memory ws) r
+    cond (eqb r.number 0) (singles start r.device r.memory ws) r
 
 -- Samples up to the first bad one.
 unfoldable pub good : List ℕ → List ℕ
 good [] = []
 good (w ∷ ws) = cond (bad_sample w) [] (w ∷ good ws)
 
-pub run_none : (d : Engine) (m : List ℕ) (start : ℕ) → (run d m start []).memory ≡ m
+pub run_none : (d : Device) (m : List ℕ) (start : ℕ) → (run d m start []).memory ≡ m
 unfolding run steps
 run_none d m start = go (eqb (run_refusal d m start []) 0)
   where
@@ -44,31 +43,31 @@ run_none d m start = go (eqb (run_refusal d m start []) 0)
     go false = refl
 
 -- One sample that is accepted: the start stays within the memory, and the sample is counted.
-pub record Accepted (start : ℕ) (d : Engine) (m : List ℕ) (w : ℕ) : Type 0 where
+pub record Accepted (start : ℕ) (d : Device) (m : List ℕ) (w : ℕ) : Type 0 where
   pub number : (run d m start (w ∷ [])).number ≡ 0
   pub within : start ≤ length (run d m start (w ∷ [])).memory
-  pub count : (run d m start (w ∷ [])).engine.core.output.counts.samples ≡ d.core.output.counts.samples + 1
+  pub count : (run d m start (w ∷ [])).device.core.output.counts.samples ≡ d.core.output.counts.samples + 1
 
 -- A refused run leaves the memory.
-pub run_refused : (d : Engine) (m : List ℕ) (start : ℕ) (ws : List ℕ) → eqb (run d m start ws).number 0 ≡ false → (run d m start ws).memory ≡ m
+pub run_refused : (d : Device) (m : List ℕ) (start : ℕ) (ws : List ℕ) → eqb (run d m start ws).number 0 ≡ false → (run d m start ws).memory ≡ m
 unfolding run
 run_refused d m start ws e = rw e
 
-module _ (start : ℕ) (d : Engine) (m : List ℕ) (well : bad_engine d ≡ false) (within : start ≤ length m) (w : ℕ) (fine : bad_sample w ≡ false) where
+module _ (start : ℕ) (d : Device) (m : List ℕ) (well : malformed d ≡ false) (within : start ≤ length m) (w : ℕ) (fine : bad_sample w ≡ false) where
   front : length (take start m) ≡ start
   front = length-take-le start m within
 
-  after : Engine
-  after = (step d (drop start m) w).engine
+  after : Device
+  after = (step d (drop start m) w).device
 
   memory : List ℕ
   memory = take start m ++ (step d (drop start m) w).buffer
 
-  one_run : d.core.output.counts.samples + 1 ≤ 4294967295 → run d m start (w ∷ []) ≡ record { number = 0; engine = after; memory = memory }
+  one_run : d.core.output.counts.samples + 1 ≤ 4294967295 → run d m start (w ∷ []) ≡ record { number = 0; device = after; memory = memory }
   unfolding run run_refusal any_bad steps after memory
   one_run fits = rw (well, le-ltb _ _ within, fine, le-ltb 4294967295 (d.core.output.counts.samples + 1) fits)
 
-  kept : bad_engine after ≡ false
+  kept : malformed after ≡ false
   unfolding after
   kept = well_formed _ (step_keeps d (drop start m) w (facts d well))
 
@@ -108,11 +107,11 @@ module _ (start : ℕ) (d : Engine) (m : List ℕ) (well : bad_engine d ≡ fals
       )
 
   pub run_number : (ws : List ℕ) → d.core.output.counts.samples + 1 ≤ 4294967295
-      → (run d m start (w ∷ ws)).number ≡ (run (run d m start (w ∷ [])).engine (run d m start (w ∷ [])).memory start ws).number
+      → (run d m start (w ∷ ws)).number ≡ (run (run d m start (w ∷ [])).device (run d m start (w ∷ [])).memory start ws).number
   run_number ws fits = rw (one_run fits) (numbers ws)
 
   pub run_cons : (ws : List ℕ) → d.core.output.counts.samples + length (w ∷ ws) ≤ 4294967295 → any_bad ws ≡ false
-      → run d m start (w ∷ ws) ≡ run (run d m start (w ∷ [])).engine (run d m start (w ∷ [])).memory start ws
+      → run d m start (w ∷ ws) ≡ run (run d m start (w ∷ [])).device (run d m start (w ∷ [])).memory start ws
   run_cons ws fits good = rw (one_run (omega arith)) (both ws fits good)
 
 -- The good samples are not bad, and not more.
@@ -127,15 +126,15 @@ good_length [] = omega arith
 good_length (w ∷ ws) = either (λ (l : List ℕ). length l ≤ suc (length ws)) (bad_sample w) (omega arith) (omega (arith, good_length ws))
 
 -- What runs of one leave, and what one run does.
-pub record Same (start : ℕ) (d : Engine) (m ws : List ℕ) : Type 0 where
+pub record Same (start : ℕ) (d : Device) (m ws : List ℕ) : Type 0 where
   pub number : 0 < length ws → (singles start d m ws).number ≡ (run d m start ws).number
   pub memory : (singles start d m ws).memory ≡ (run d m start (good ws)).memory
   pub whole : (singles start d m ws).number ≡ 0 → 0 < length ws → singles start d m ws ≡ run d m start ws
   pub within : (singles start d m ws).number ≡ 0 → 0 < length ws → start ≤ length (singles start d m ws).memory
 
 -- The first is refused, as all are, and nothing is run.
-module _ (start : ℕ) (d : Engine) (m : List ℕ) (w : ℕ) (ws : List ℕ) where
-  stopped : (n : ℕ) → eqb n 0 ≡ false → run d m start (w ∷ []) ≡ record { number = n; engine = d; memory = m } → (run d m start (w ∷ ws)).number ≡ n
+module _ (start : ℕ) (d : Device) (m : List ℕ) (w : ℕ) (ws : List ℕ) where
+  stopped : (n : ℕ) → eqb n 0 ≡ false → run d m start (w ∷ []) ≡ record { number = n; device = d; memory = m } → (run d m start (w ∷ ws)).number ≡ n
       → (run d m start (good (w ∷ ws))).memory ≡ m → Same start d m (w ∷ ws)
   unfolding singles
   stopped n some one all memory =
@@ -146,26 +145,26 @@ module _ (start : ℕ) (d : Engine) (m : List ℕ) (w : ℕ) (ws : List ℕ) whe
         within = λ e _. absurd (eqb-false n 0 some (rw (one, some) at e));
       }
 
-  malformed_first : bad_engine d ≡ true → Same start d m (w ∷ ws)
+  malformed_first : malformed d ≡ true → Same start d m (w ∷ ws)
   unfolding run run_refusal
   malformed_first e = stopped 1 refl (rw e) (rw e) (rw e)
 
-  beyond_first : bad_engine d ≡ false → length m < start → Same start d m (w ∷ ws)
+  beyond_first : malformed d ≡ false → length m < start → Same start d m (w ∷ ws)
   unfolding run run_refusal
   beyond_first e f = stopped 9 refl (rw (e, lt-ltb _ _ f)) (rw (e, lt-ltb _ _ f)) (rw (e, lt-ltb _ _ f))
 
-  bad_first : bad_engine d ≡ false → start ≤ length m → bad_sample w ≡ true → Same start d m (w ∷ ws)
+  bad_first : malformed d ≡ false → start ≤ length m → bad_sample w ≡ true → Same start d m (w ∷ ws)
   unfolding run run_refusal any_bad good
   bad_first e f b = stopped 7 refl (rw (e, le-ltb _ _ f, b)) (rw (e, le-ltb _ _ f, b)) (rw b (run_none d m start))
 
 -- A run that is accepted has no bad sample.
-pub not_bad : (d : Engine) (m : List ℕ) (start : ℕ) (ws : List ℕ) → (run d m start ws).number ≡ 0 → any_bad ws ≡ false
+pub not_bad : (d : Device) (m : List ℕ) (start : ℕ) (ws : List ℕ) → (run d m start ws).number ≡ 0 → any_bad ws ≡ false
 unfolding run run_refusal
-not_bad d m start ws e = (passed (bad_engine d) (ltb (length m) start) d.core.output.counts.samples ws e).good
+not_bad d m start ws e = (passed (malformed d) (ltb (length m) start) d.core.output.counts.samples ws e).good
 
 -- The first is run.
-module _ (start : ℕ) (d : Engine) (m : List ℕ) (w : ℕ) (well : bad_engine d ≡ false) (within : start ≤ length m) (fine : bad_sample w ≡ false) (small : d.core.output.counts.samples + 1 ≤ 4294967295) where
-  first_runs : (ws : List ℕ) → singles start d m (w ∷ ws) ≡ singles start (run d m start (w ∷ [])).engine (run d m start (w ∷ [])).memory ws
+module _ (start : ℕ) (d : Device) (m : List ℕ) (w : ℕ) (well : malformed d ≡ false) (within : start ≤ length m) (fine : bad_sample w ≡ false) (small : d.core.output.counts.samples + 1 ≤ 4294967295) where
+  first_runs : (ws : List ℕ) → singles start d m (w ∷ ws) ≡ singles start (run d m start (w ∷ [])).device (run d m start (w ∷ [])).memory ws
   unfolding singles
   first_runs ws = rw (accepts start d m well within w fine small).number
 
@@ -178,7 +177,7 @@ module _ (start : ℕ) (d : Engine) (m : List ℕ) (w : ℕ) (well : bad_engine 
   last_runs = rw (accepts start d m well within w fine small).number
 
   goes_on : (ws : List ℕ) → d.core.output.counts.samples + length (w ∷ ws) ≤ 4294967295
-      → Same start (run d m start (w ∷ [])).engine (run d m start (w ∷ [])).memory ws → Same start d m (w ∷ ws)
+      → Same start (run d m start (w ∷ [])).device (run d m start (w ∷ [])).memory ws → Same start d m (w ∷ ws)
   unfolding good
   goes_on [] fits s =
       let a = accepts start d m well within w fine small in
@@ -196,13 +195,13 @@ module _ (start : ℕ) (d : Engine) (m : List ℕ) (w : ℕ) (well : bad_engine 
         within = λ e _. rw same (s.within (rw same at e) some);
       }
 
--- Runs of one sample are one run of all: refused alike, the memory that of the good ones; accepted, the same engine and memory.
-pub singles_run : (start : ℕ) (d : Engine) (m ws : List ℕ) → d.core.output.counts.samples + length ws ≤ 4294967295 → Same start d m ws
+-- Runs of one sample are one run of all: refused alike, the memory that of the good ones; accepted, the same device and memory.
+pub singles_run : (start : ℕ) (d : Device) (m ws : List ℕ) → d.core.output.counts.samples + length ws ≤ 4294967295 → Same start d m ws
 unfolding singles good
 singles_run start d m [] fits =
     record { number = λ h. absurd (omega arith); memory = sym (run_none d m start); whole = λ _ h. absurd (omega arith); within = λ _ h. absurd (omega arith) }
 singles_run start d m (w ∷ ws) fits =
-    by_bool (bad_engine d)
+    by_bool (malformed d)
     (malformed_first start d m w ws)
     (λ well.
     by_bool (ltb (length m) start)
@@ -214,4 +213,4 @@ singles_run start d m (w ∷ ws) fits =
     (λ fine.
     let small : d.core.output.counts.samples + 1 ≤ 4294967295 = omega arith in
     let a = accepts start d m well within w fine small in
-    goes_on start d m w well within fine small ws fits (singles_run start (run d m start (w ∷ [])).engine (run d m start (w ∷ [])).memory ws (omega (arith, a.count))))))
+    goes_on start d m w well within fine small ws fits (singles_run start (run d m start (w ∷ [])).device (run d m start (w ∷ [])).memory ws (omega (arith, a.count))))))

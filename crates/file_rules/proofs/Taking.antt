@@ -8,7 +8,7 @@ use native.Mathlib.Omega.{arith}
 use lib.Dec.{eqb, ltb}
 use lib.ListN.{length, set}
 use borrow.Author.Tests.{lt-ltb, le-ltb, le-leb, lt-leb, ltb-false}
-use Rattle.rules.specs.declared.Engine.{Engine}
+use Rattle.rules.specs.declared.Device.{Device}
 use Rattle.trace_format.specs.Format.{header_length}
 use Rattle.trace_format.specs.Reading.{version_of, sample_start, whole, header_refusal}
 use Rattle.file_rules.specs.Parts.{Taken, wants, write_place, sample_place, falls, write_byte, sample_byte, byte_at, take_byte, take_bytes, take_parts, joined}
@@ -26,9 +26,9 @@ parts_joined start t [] = refl
 parts_joined start t (p ∷ ps) = parts_joined start (take_bytes start t p) ps ∙ sym (bytes_append start t p (joined ps))
 
 -- A state and a memory, with each field by name.
-abbrev pub at : List ℕ → ℕ → List ℕ → Engine → ℕ → List ℕ → Taken
-at head taken item engine number memory =
-    record { state = record { head = head; taken = taken; item = item; engine = engine; number = number }; memory = memory }
+abbrev pub at : List ℕ → ℕ → List ℕ → Device → ℕ → List ℕ → Taken
+at head taken item device number memory =
+    record { state = record { head = head; taken = taken; item = item; device = device; number = number }; memory = memory }
 
 -- Where no byte more is wanted, all that come leave the state.
 pub unwanted : (start : ℕ) (t : Taken) (bs : List ℕ) → wants t.state.head t.state.taken ≡ false → take_bytes start t bs ≡ t
@@ -37,14 +37,14 @@ unwanted start t [] e = refl
 unwanted start t (b ∷ bs) e = rw e (unwanted start t bs e)
 
 -- A byte of the header.
-pub header_step : (start : ℕ) (h : List ℕ) (n : ℕ) (item : List ℕ) (d : Engine) (number : ℕ) (m : List ℕ) (b : ℕ)
+pub header_step : (start : ℕ) (h : List ℕ) (n : ℕ) (item : List ℕ) (d : Device) (number : ℕ) (m : List ℕ) (b : ℕ)
     → header_refusal h n ≡ 13 → n < header_length (version_of h)
     → take_byte start (at h n item d number m) b ≡ at (set h n b) (n + 1) item d number m
 unfolding take_byte falls byte_at wants
 header_step start h n item d number m b e i = rw (e, lt-ltb _ _ i)
 
 -- Behind a header that passes.
-module _ (start : ℕ) (h : List ℕ) (passes : (n : ℕ) → header_length (version_of h) ≤ n → header_refusal h n ≡ 0) (d : Engine) (m : List ℕ) where
+module _ (start : ℕ) (h : List ℕ) (passes : (n : ℕ) → header_length (version_of h) ≤ n → header_refusal h n ≡ 0) (d : Device) (m : List ℕ) where
   -- A byte of a write.
   pub write_step : (n : ℕ) (item : List ℕ) (b : ℕ) → header_length (version_of h) ≤ n → n < sample_start h 0
       → take_byte start (at h n item d 0 m) b ≡ let s = (at h n item d 0 m).state in record { state = write_byte s (write_place s) b; memory = m }

@@ -3,22 +3,22 @@
 use Rattle.std.specs.Prelude.{Bool, cond, not, ◌&&◌, List, [], ◌∷◌, ◌++◌, ℕ, zero, suc, ◌+◌, ◌-◌, ◌/◌, ◌%◌, min, eqb, ltb, leb, length, set, replicate}
 use Rattle.numbers.specs.Numbers.{number_at}
 use Rattle.refusals.specs.Refusals.{◌⇒◌, first}
-use Rattle.rules.specs.declared.Engine.{Engine}
+use Rattle.rules.specs.declared.Device.{Device}
 use Rattle.rules.specs.Answers.{Changed}
-use Rattle.rules.specs.RegisterCalls.{no_engine, write}
+use Rattle.rules.specs.RegisterCalls.{no_device, write}
 use Rattle.rules.specs.Run.{RunResult, run}
 use Rattle.samples.specs.Samples.{bad_sample}
 use Rattle.trace_format.specs.Format.{header_length, write_size, sample_size}
 use Rattle.trace_format.specs.Reading.{version_of, sample_count, sample_start, sample_at, whole, header_refusal, form_of, writes_of}
 use Rattle.file_rules.specs.File.{set_up}
 
--- The header as far as it has come, how many bytes have come, the bytes of the write or sample that has begun, the engine, and the number of the first refused write
+-- The header as far as it has come, how many bytes have come, the bytes of the write or sample that has begun, the device, and the number of the first refused write
 -- or sample, 0 where none was.
 pub record State : Type 0 where
   pub head : List ℕ
   pub taken : ℕ
   pub item : List ℕ
-  pub engine : Engine
+  pub device : Device
   pub number : ℕ
 
 -- With the memory that is lent.
@@ -30,8 +30,8 @@ pub record Taken : Type 0 where
 abbrev pub no_item : List ℕ
 no_item = replicate 5 0
 
-unfoldable pub opened : Engine → State
-opened d = record { head = replicate 10 0; taken = 0; item = no_item; engine = d; number = 0 }
+unfoldable pub opened : Device → State
+opened d = record { head = replicate 10 0; taken = 0; item = no_item; device = d; number = 0 }
 
 -- Whether a byte more can change the answer: the header is not there yet, or it passes and no byte too many has come. Else no byte more is taken, not even counted.
 unfoldable pub wants : List ℕ → ℕ → Bool
@@ -41,20 +41,20 @@ wants head taken =
 
 -- One byte more, with header and item.
 abbrev pub next : State → List ℕ → List ℕ → State
-next s head item = record { head = head; taken = s.taken + 1; item = item; engine = s.engine; number = s.number }
+next s head item = record { head = head; taken = s.taken + 1; item = item; device = s.device; number = s.number }
 
--- A write with all its bytes: refused, it leaves the engine, and its number is remembered.
+-- A write with all its bytes: refused, it leaves the device, and its number is remembered.
 unfoldable pub after_write : State → State
 after_write s =
-    let r = write s.engine (number_at s.item 0 1) (number_at s.item 1 4) in
-    record { head = s.head; taken = s.taken; item = no_item; engine = r.engine; number = r.number }
+    let r = write s.device (number_at s.item 0 1) (number_at s.item 1 4) in
+    record { head = s.head; taken = s.taken; item = no_item; device = r.device; number = r.number }
 
--- A sample with all its bytes, as a run of one: refused (1, 9, 7, 8), it leaves engine and memory, and its number is remembered. On the engine of a file's run 1 and 8 do not
+-- A sample with all its bytes, as a run of one: refused (1, 9, 7, 8), it leaves device and memory, and its number is remembered. On the device of a file's run 1 and 8 do not
 -- occur (W8: `never-remembered`).
 unfoldable pub after_sample : ℕ → State → List ℕ → Taken
 after_sample start s memory =
-    let r = run s.engine memory start (number_at s.item 0 sample_size ∷ []) in
-    record { state = record { head = s.head; taken = s.taken; item = no_item; engine = r.engine; number = r.number }; memory = r.memory }
+    let r = run s.device memory start (number_at s.item 0 sample_size ∷ []) in
+    record { state = record { head = s.head; taken = s.taken; item = no_item; device = r.device; number = r.number }; memory = r.memory }
 
 -- Where the next byte falls (01, "Trace file"; W7): in the header; in a write or a sample, at a place of its five or three bytes; where a byte is counted only, behind a
 -- refused write or sample and behind the last sample; or where none is wanted any more.
@@ -126,7 +126,7 @@ joined [] = []
 joined (p ∷ ps) = p ++ joined ps
 
 -- The end of the file, in the order of the whole file's run: the form checks 13, 10, 11, 13, 12, 13, the number that is remembered; then, for a file without samples, 9.
--- Refused, there is no engine.
+-- Refused, there is no device.
 unfoldable pub end_refusal : State → List ℕ → ℕ → ℕ
 end_refusal s memory start =
     let form = form_of s.head s.taken in
@@ -139,14 +139,14 @@ end_refusal s memory start =
 unfoldable pub ended : State → List ℕ → ℕ → Changed
 ended s memory start =
     let number = end_refusal s memory start in
-    record { number = number; engine = cond (eqb number 0) s.engine no_engine }
+    record { number = number; device = cond (eqb number 0) s.device no_device }
 
--- A file by parts: its number, the engine and the memory that the parts leave.
-unfoldable pub run_parts : Engine → List (List ℕ) → List ℕ → ℕ → RunResult
+-- A file by parts: its number, the device and the memory that the parts leave.
+unfoldable pub run_parts : Device → List (List ℕ) → List ℕ → ℕ → RunResult
 run_parts d parts memory start =
     let t = take_parts start (record { state = opened d; memory = memory }) parts in
     let e = ended t.state t.memory start in
-    record { number = e.number; engine = e.engine; memory = t.memory }
+    record { number = e.number; device = e.device; memory = t.memory }
 
 -- How many bytes more are wanted before a refusal can be certain: up to the eighth, to the end of the header, to one behind the length that the header gives; then none.
 unfoldable pub wanted : List ℕ → ℕ → ℕ
@@ -164,7 +164,7 @@ good_from file k (suc n) = cond (bad_sample (sample_at file k)) [] (sample_at fi
 unfoldable pub samples_there : List ℕ → List ℕ
 samples_there file = good_from file 0 (min (sample_count file) ((length file - sample_start file 0) / sample_size))
 
-unfoldable pub left_by : Engine → List ℕ → List ℕ → ℕ → List ℕ
+unfoldable pub left_by : Device → List ℕ → List ℕ → ℕ → List ℕ
 left_by d file memory start =
     let ready = set_up d (writes_of file) in
-    cond (eqb (header_refusal file (length file)) 0 && eqb ready.number 0) (run ready.engine memory start (samples_there file)).memory memory
+    cond (eqb (header_refusal file (length file)) 0 && eqb ready.number 0) (run ready.device memory start (samples_there file)).memory memory

@@ -13,9 +13,9 @@ use types.Run.{OneOf, miss}
 use denote.Enum.Declared.{tag_of}
 use Rattle.bits.proofs.Booleans.{or_false}
 use Rattle.samples.specs.Samples.{bad_sample, any_bad}
-use Rattle.rules.specs.declared.Engine.{Engine}
-use Rattle.rules.specs.Step.{step, Ran, steps}
-use Rattle.rules.specs.WellFormed.{bad_engine}
+use Rattle.rules.specs.declared.Device.{Device}
+use Rattle.rules.specs.Run.{step, Ran, steps}
+use Rattle.rules.specs.WellFormed.{malformed}
 use Rattle.rules.proofs.WellFormed.{WellFormed, well_formed}
 use Rattle.laws.proofs.Keeps.{steps_append, steps_keep}
 use Rattle.laws.proofs.KeepsSample.{step_samples}
@@ -35,10 +35,10 @@ use Rattle.trace_format.proofs.Walk.{clash}
 use Rattle.trace_format.proofs.Rewritten.{length_samples_from}
 use Rattle.trace.proofs.ManySamples.{samples_over, samples_append, samples_here}
 
-steps_samples : (d : Engine) (b ws : List ℕ) → (steps d b ws).engine.core.output.counts.samples ≡ d.core.output.counts.samples + length ws
+steps_samples : (d : Device) (b ws : List ℕ) → (steps d b ws).device.core.output.counts.samples ≡ d.core.output.counts.samples + length ws
 unfolding steps
 steps_samples d b [] = omega arith
-steps_samples d b (w ∷ ws) = steps_samples (step d b w).engine (step d b w).buffer ws ∙ rw step_samples (omega arith)
+steps_samples d b (w ∷ ws) = steps_samples (step d b w).device (step d b w).buffer ws ∙ rw step_samples (omega arith)
 
 -- An accepted file has the right form, and no bad sample.
 pub accepted_file : (f : List ℕ) → file_refusal f ≡ 0 → (form_refusal f ≡ 0) × (any_bad (samples_of f) ≡ false)
@@ -69,19 +69,19 @@ refused_file f r form e = go (any_bad (samples_of f)) (rw form at e)
     go false e = absurd (eqb-false (number r) 0 (never_zero r) e)
 
 -- The samples left lead to the same end: k are done.
-pub record Stepping (f buffer₀ : List ℕ) (d₀ : Engine) (buffer : List ℕ) (d : Engine) (k : ℕ) (array : List ℕ) : Type 0 where
+pub record Stepping (f buffer₀ : List ℕ) (d₀ : Device) (buffer : List ℕ) (d : Device) (k : ℕ) (array : List ℕ) : Type 0 where
   pub same : steps d buffer (samples_from f k (sample_count f - k)) ≡ steps d₀ buffer₀ (samples_of f)
   pub well : WellFormed d
   pub count : d.core.output.counts.samples ≡ k
   pub long : length buffer ≡ length buffer₀
   pub room : length array ≡ 256
 
-pub stepping_start : (f buffer array : List ℕ) (d : Engine) → WellFormed d → d.core.output.counts.samples ≡ 0 → length array ≡ 256 → Stepping f buffer d buffer d 0 array
+pub stepping_start : (f buffer array : List ℕ) (d : Device) → WellFormed d → d.core.output.counts.samples ≡ 0 → length array ≡ 256 → Stepping f buffer d buffer d 0 array
 stepping_start f buffer array d well none room =
     let all : sample_count f - 0 ≡ sample_count f = omega arith in
     record { same = rw all; well = well; count = none; long = refl; room = room }
 
-module _ {f buffer₀ : List ℕ} {d₀ : Engine} {buffer : List ℕ} {d : Engine} {k : ℕ} {array : List ℕ} (s : Stepping f buffer₀ d₀ buffer d k array) where
+module _ {f buffer₀ : List ℕ} {d₀ : Device} {buffer : List ℕ} {d : Device} {k : ℕ} {array : List ℕ} (s : Stepping f buffer₀ d₀ buffer d k array) where
   -- The next samples stand at the front of the array.
   module _ (form : form_refusal f ≡ 0) (inside : k < sample_count f) {array' : List ℕ} {n : ℕ} (count_is : n ≡ how_many f (sample_start f k) (sample_count f - k) (length array))
       (front : array' ≡ sets array 0 (samples_in n (drop (sample_start f k) f))) where
@@ -100,7 +100,7 @@ module _ {f buffer₀ : List ℕ} {d₀ : Engine} {buffer : List ℕ} {d : Engin
         rw (front, samples_here f n k, put_over array (samples_from f k n) n l (omega (arith, some.1, s.room))) (take_at (samples_from f k n) _ n l)
 
     -- They can all be counted.
-    pub stepping_asks : sample_count f ≤ sample_limit → (bad_engine d ≡ false) × (d.core.output.counts.samples + length (take n array') < 2 ^ 32)
+    pub stepping_asks : sample_count f ≤ sample_limit → (malformed d ≡ false) × (d.core.output.counts.samples + length (take n array') < 2 ^ 32)
     stepping_asks fits = (well_formed d s.well, rw (part, length_samples_from f k n) (omega (arith, s.count, some.2)))
 
     halves : samples_from f k (sample_count f - k) ≡ samples_from f k n ++ samples_from f (k + n) (sample_count f - (k + n))
@@ -108,11 +108,11 @@ module _ {f buffer₀ : List ℕ} {d₀ : Engine} {buffer : List ℕ} {d : Engin
         let e : sample_count f - k ≡ n + (sample_count f - (k + n)) = omega (arith, some.2) in
         ap (samples_from f k) e ∙ samples_append f k n (sample_count f - (k + n))
 
-    pub stepping_on : (buffer' : List ℕ) (d' : Engine) → ◌≡◌ {A = Ran} (record { engine = d'; buffer = buffer' }) (steps d buffer (take n array')) → length buffer' ≡ length buffer
+    pub stepping_on : (buffer' : List ℕ) (d' : Device) → ◌≡◌ {A = Ran} (record { device = d'; buffer = buffer' }) (steps d buffer (take n array')) → length buffer' ≡ length buffer
         → Stepping f buffer₀ d₀ buffer' d' (k + n) array'
     stepping_on buffer' d' told el =
-        let e : ◌≡◌ {A = Ran} (record { engine = d'; buffer = buffer' }) (steps d buffer (samples_from f k n)) = told ∙ ap (steps d buffer) part in
-        let ed : d' ≡ (steps d buffer (samples_from f k n)).engine = ap (λ (x : Ran). x.engine) e in
+        let e : ◌≡◌ {A = Ran} (record { device = d'; buffer = buffer' }) (steps d buffer (samples_from f k n)) = told ∙ ap (steps d buffer) part in
+        let ed : d' ≡ (steps d buffer (samples_from f k n)).device = ap (λ (x : Ran). x.device) e in
         let eb : buffer' ≡ (steps d buffer (samples_from f k n)).buffer = ap (λ (x : Ran). x.buffer) e in
         record {
           same = rw (ed, eb, ← steps_append, ← halves) s.same;
@@ -150,6 +150,6 @@ module _ {f buffer₀ : List ℕ} {d₀ : Engine} {buffer : List ℕ} {d : Engin
         go samples_cases.End kind e = clash cc
         go (samples_cases.Refused v) kind e = clash cc
 
-  pub stepping_end : sample_count f ≤ k → ◌≡◌ {A = Ran} (record { engine = d; buffer = buffer }) (steps d₀ buffer₀ (samples_of f))
+  pub stepping_end : sample_count f ≤ k → ◌≡◌ {A = Ran} (record { device = d; buffer = buffer }) (steps d₀ buffer₀ (samples_of f))
   unfolding steps
   stepping_end past = sym (ap (λ (ws : List ℕ). steps d buffer ws) (samples_over f k (sample_count f) past)) ∙ s.same

@@ -1,9 +1,8 @@
--- A trace of three frames of 12 bits, and what single samples over two memories (W2), one after another, make of device and memories: A from byte 0 on, B from byte 4.
+-- A trace of three frames of 12 bits, and what single samples over two memories (W2), one after another, make of board and memories: A from byte 0 on, B from byte 4.
 use Rattle.std.specs.Prelude.{List, [], ◌∷◌, ℕ}
-use Rattle.rules.specs.declared.Device.{Device}
-use Rattle.rules.specs.Device as device_state
-use Rattle.rules.specs.RegisterCalls as register_rules
-use Rattle.two_memory_rules.specs.TwoRuns as two_runs
+use Rattle.board_rules.specs.declared.Board.{Board}
+use Rattle.board_rules.specs.BoardCalls as board_calls
+use Rattle.board_rules.specs.BoardRuns as board_runs
 
 -- A blank edge; a word, its grant and the frame's end; two words, of which the first lands in the frame and the second in the sample of its end; a word, its grant and the frame's end.
 abbrev pub three_frames : List ℕ
@@ -14,25 +13,25 @@ three_frames =
     0x00005 ∷ 0x10005 ∷ 0x00006 ∷ 0x10006 ∷ 0x2C000 ∷ 0x1C000 ∷
     []
 
--- A device and the two memories, as they are left: by one sample; by one after another.
+-- A board and the two memories, as they are left: by one sample; by one after another.
 pub record Left : Type 0 where
-  pub device : Device
+  pub board : Board
   pub a : List ℕ
   pub b : List ℕ
 
-abbrev pub left : Device → List ℕ → List ℕ → Left
-left device a b = record { device = device; a = a; b = b }
+abbrev pub left : Board → List ℕ → List ℕ → Left
+left board a b = record { board = board; a = a; b = b }
 
-abbrev pub lends : List ℕ → List ℕ → two_runs.Both
+abbrev pub lends : List ℕ → List ℕ → board_runs.Both
 lends a b = record { a = record { memory = a; start = 0 }; b = record { memory = b; start = 4 } }
 
-abbrev pub sample_left : Device → List ℕ → List ℕ → ℕ → Left
-sample_left device a b w = let s = two_runs.sample_two device (lends a b) w in left s.device s.memories.a s.memories.b
+abbrev pub sample_left : Board → List ℕ → List ℕ → ℕ → Left
+sample_left board a b w = let s = board_runs.sample_two board (lends a b) w in left s.board s.memories.a s.memories.b
 
-unfoldable pub samples : Device → List ℕ → List ℕ → List ℕ → Left
-samples device a b [] = left device a b
-samples device a b (w ∷ ws) = let l = sample_left device a b w in samples l.device l.a l.b ws
+unfoldable pub samples : Board → List ℕ → List ℕ → List ℕ → Left
+samples board a b [] = left board a b
+samples board a b (w ∷ ws) = let l = sample_left board a b w in samples l.board l.a l.b ws
 
--- The device after reset, in mode two, with CR written.
-abbrev pub ready : ℕ → Device
-ready cr = (register_rules.write (register_rules.two_buffers device_state.fresh).device 0x00 cr).device
+-- The board after reset, in mode two, with CR written.
+abbrev pub ready : ℕ → Board
+ready cr = (board_calls.write (board_calls.two_buffers board_calls.fresh).board 0x00 cr).board

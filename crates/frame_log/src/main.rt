@@ -1,15 +1,17 @@
-// Three frames in two buffers in turn (W2), sample by sample: one device is held in `log`, in mode two, and lent for each sample. After each its answer is printed, and
+// Three frames in two buffers in turn (W2), sample by sample: one board is held in `log`, in mode two, and lent for each sample. After each its answer is printed, and
 // the part of A or B that is handed back; both are compared with the stored output.
+#![tactic(auto)]
+
 ghost use Rattle.std.specs.Prelude.{◌≡◌, ◌<◌, get_or};
 ghost use Rattle.frame_log.specs.Frames.{three_frames, samples, left, sample_left, ready};
 
+use board::TwoReply;
+use board_rules::Board;
 use buffers::Buffer;
-use device::TwoReply;
 use libc::STDOUT_FILENO;
 use output::Packing;
 use refusals::Outcome;
 use registers::Register;
-use rules::Device;
 use two_buffers::TwoLanding;
 
 // The starts of the frame buffers in their memories.
@@ -31,7 +33,7 @@ fn count(name: &[u8], n: u64) {
     io::print_decimal(STDOUT_FILENO, n);
 }
 
-// The answer of a call that sets the device up.
+// The answer of a call that sets the board up.
 fn set_up(name: &[u8], outcome: Outcome) {
     text(name);
     match outcome {
@@ -110,9 +112,9 @@ fn which(refusal: u32, kind: u32) {
 }
 
 // The latest complete frame, handed back and printed.
-fn handed<'m>(b: Device, memory_a: &'m [u8], memory_b: &'m [u8]) {
+fn handed<'m>(b: Board, memory_a: &'m [u8], memory_b: &'m [u8]) {
     let mut answer = [0u32; 2];
-    let part = device::hand_back(b, memory_a, START_A, memory_b, START_B, &mut answer);
+    let part = board::hand_back(b, memory_a, START_A, memory_b, START_B, &mut answer);
     which(answer[0], answer[1]);
     bytes(part);
 }
@@ -130,8 +132,8 @@ fn trace(i: usize) -> u32
     t[i]
 }
 
-// One sample: the device is lent for it, what it answered is printed, and the device is handed back.
-fn turn<'m, 'n>(mut b: Device, memory_a: &'m mut [u8], memory_b: &'n mut [u8], w: u32) -> Device
+// One sample: the board is lent for it, what it answered is printed, and the board is handed back.
+fn turn<'m, 'n>(mut b: Board, memory_a: &'m mut [u8], memory_b: &'n mut [u8], w: u32) -> Board
     ensures { left result memory_a.new memory_b.new ≡ sample_left b memory_a.old memory_b.old w }
 {
     let reply = lent::sample_two(&mut b, memory_a, START_A, memory_b, START_B, w);
@@ -139,17 +141,17 @@ fn turn<'m, 'n>(mut b: Device, memory_a: &'m mut [u8], memory_b: &'n mut [u8], w
     b
 }
 
-// Mode two, a write of CR and the trace. The one device is held here, and lent for each sample; it and the memories after them are the rules' own.
-fn log<'m, 'n>(cr: u32, memory_a: &'m mut [u8], memory_b: &'n mut [u8]) -> Device
+// Mode two, a write of CR and the trace. The one board is held here, and lent for each sample; it and the memories after them are the rules' own.
+fn log<'m, 'n>(cr: u32, memory_a: &'m mut [u8], memory_b: &'n mut [u8]) -> Board
     ensures { left result memory_a.new memory_b.new ≡ samples (ready cr) memory_a.old memory_b.old three_frames }
 {
-    let in_two = device::two_buffers(device::fresh());
+    let in_two = board::two_buffers(board::fresh());
     let outcome = in_two.outcome;
     set_up(b"two buffers", outcome);
-    let written = device::write(in_two.device, Register::CR, cr);
+    let written = board::write(in_two.board, Register::CR, cr);
     let outcome = written.outcome;
     set_up(b"write of CR", outcome);
-    let mut b = written.device;
+    let mut b = written.board;
     let mut i = 0;
     while i < 24 {
         let w = trace(i);

@@ -6,7 +6,7 @@ use native.Mathlib.Omega.{arith}
 use lib.ListN.{length, take, get_or}
 use lib.Seq.{length-take-le}
 use Rattle.io.specs.Counts.{IsPrefixLen}
-use Rattle.rules.specs.declared.Engine.{Engine}
+use Rattle.rules.specs.declared.Device.{Device}
 use Rattle.rules.specs.State.{fresh}
 use Rattle.file_rules.specs.Parts.{State, Taken, opened, take_bytes, take_parts, ended, run_parts, joined}
 use Rattle.parts.specs.declared.Parts.{Parts}
@@ -45,7 +45,7 @@ unfolding take_parts
 part_more start t [] p = refl
 part_more start t (q ∷ ps) p = part_more start (take_bytes start t q) ps p
 
-pub opened_by_parts : (p : Parts) (d : Engine) → state p ≡ opened d → d ≡ fresh → ByParts p blank
+pub opened_by_parts : (p : Parts) (d : Device) → state p ≡ opened d → d ≡ fresh → ByParts p blank
 unfolding take_parts
 opened_by_parts p d is e = ([], ap (λ (s : State). record { state = s; memory = blank }) (is ∙ ap opened e))
 
@@ -55,6 +55,6 @@ by_part p p' memory memory' bytes by more =
 
 -- So what is printed at the end is what the file prints that the parts are.
 pub prints_the_file : (p : Parts) (memory : List ℕ) (by : ByParts p memory) → ((i : ℕ) → get_or (joined by.0) i 0 < 256)
-    → let e = ended (state p) memory 0 in printed e.number e.engine memory ≡ printed_file (joined by.0)
+    → let e = ended (state p) memory 0 in printed e.number e.device memory ≡ printed_file (joined by.0)
 unfolding run_parts
-prints_the_file p memory by bytes = ap (λ (t : Taken). let e = ended t.state t.memory 0 in printed e.number e.engine t.memory) by.1 ∙ printed_by_parts by.0 bytes
+prints_the_file p memory by bytes = ap (λ (t : Taken). let e = ended t.state t.memory 0 in printed e.number e.device t.memory) by.1 ∙ printed_by_parts by.0 bytes

@@ -2,6 +2,8 @@
 // order. Nothing is printed before the outcome is certain. No byte is read behind the one that is one too many, nor behind a header that is refused. A read that fails ends the
 // input; a write that fails ends the output.
 // The buffers (request W7: at most 64 KiB): 32,768 bytes for input, 16,384 of memory, 32 for a line; 2,048 for samples in `parts`, and in `io` 4,096. Together 55,328.
+#![tactic(auto)]
+
 ghost use Rattle.std.specs.Prelude.{◌≡◌};
 ghost use Rattle.frame_printer.specs.Reading as reading_facts;
 
@@ -10,7 +12,7 @@ use parts::Parts;
 use printing::{line, line_count};
 
 // What the input gives next: so many bytes at the front of the buffer, the end, or a read that failed.
-#[derive(Drop)]
+#[derive(Clone, Copy)]
 enum Input {
     Bytes(usize),
     End,
@@ -49,7 +51,7 @@ fn print(parts: Parts, memory: &[u8])
     requires { reading_facts.ByParts parts memory.now }
 {
     let ended = parts::end(parts, memory, 0);
-    let d = ended.engine;
+    let d = ended.device;
     let outcome = ended.outcome;
     let count = line_count(outcome, d);
     let mut text = [0u8; 32];
@@ -64,7 +66,7 @@ fn print(parts: Parts, memory: &[u8])
 fn main() {
     let mut buffer = [0u8; 32768];
     let mut memory = [0u8; 16384];
-    let mut p = parts::open(engine::fresh());
+    let mut p = parts::open(device::fresh());
     loop {
         let next = read(&mut buffer, parts::wanted(p));
         let Input::Bytes(n) = next else {

@@ -8,15 +8,15 @@ use Rattle.output.specs.declared.Fate.{Fate}
 use Rattle.output.specs.declared.Fate.TheVariants.{Held, Lost}
 use Rattle.output.specs.Output.{OutputState, offer, nothing, completed, lost}
 use Rattle.rules.specs.declared.Capture.{Capture}
-use Rattle.rules.specs.State.{engine, output_of, raise}
+use Rattle.rules.specs.State.{device, output_of, raise}
 use Rattle.rules.specs.Capture.{Captured, flagged}
-use Rattle.rules.specs.Step.{after_word, complete}
+use Rattle.rules.specs.Run.{after_word, complete}
 use Rattle.full_word.specs.Answers.{with_word}
 
 -- Rule 9 of a padded word from that of a full one: FRAME rises where it is held.
 pub held_flagged : (fate : Fate) (v n : ℕ) (s : Capture) (x : OutputState) → (after_word fate v (with_word v false s) x).packed ≡ completed n
     → after_word fate v (with_word v true s) x
-    ≡ record { engine = engine (raise 0 s) (output_of (after_word fate v (with_word v false s) x).engine); packed = (after_word fate v (with_word v false s) x).packed }
+    ≡ record { device = device (raise 0 s) (output_of (after_word fate v (with_word v false s) x).device); packed = (after_word fate v (with_word v false s) x).packed }
 unfolding after_word flagged
 held_flagged Held v n s x e = refl
 held_flagged Lost v n s x e = let z : ◌≡◌ {A = ℕ} 0 1 = cc in absurd (omega arith)

@@ -3,19 +3,19 @@ use Rattle.std.specs.Prelude.{Bool, false, List, ℕ}
 use Rattle.std.proofs.Math.Option.{some}
 use Rattle.output.specs.Answers.{packing}
 use Rattle.rules.specs.declared.Core.{Core}
-use Rattle.rules.specs.declared.Engine.{Engine}
+use Rattle.rules.specs.declared.Device.{Device}
 use Rattle.rules.specs.declared.Capture.{Capture}
 use Rattle.rules.specs.Capture.{Captured}
-use Rattle.rules.specs.Step as step_rules
+use Rattle.rules.specs.Run as run_rules
 use Rattle.full_word.specs.declared.Completed.{Completed}
 
 -- A state with a full or a padded word, and whether FRAME is due.
 abbrev pub with_word : ℕ → Bool → Capture → Captured
 with_word v due s = record { state = s; word = some v; due = due; error = false }
 
--- The engine of a core and its slots; with what became of the word.
-abbrev pub engine : Core → List ℕ → Engine
-engine c slots = record { core = c; slots = slots }
+-- The device of a core and its slots; with what became of the word.
+abbrev pub device : Core → List ℕ → Device
+device c slots = record { core = c; slots = slots }
 
-abbrev pub completed : Completed → List ℕ → step_rules.Completed
-completed c slots = record { engine = engine c.core slots; packed = packing c.packing }
+abbrev pub completed : Completed → List ℕ → run_rules.Completed
+completed c slots = record { device = device c.core slots; packed = packing c.packing }

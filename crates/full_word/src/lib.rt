@@ -1,11 +1,13 @@
 // Rule 9 of a sample: a full word is held, or there is an overrun. The slots are lent and the rest goes by value
-// (docs/SPEED.md). The functions are for the crates above, which call them on well-formed engines; each states its result as an equation with its definition.
+// (docs/SPEED.md). The functions are for the crates above, which call them on well-formed devices; each states its result as an equation with its definition.
+#![tactic(auto)]
+
 ghost use Rattle.std.specs.Prelude.{true, false, cond, ◌≡◌, ◌+◌, ◌≤◌, ◌<◌, ◌^◌};
 ghost use Rattle.std.proofs.Math.Option.{some};
 ghost use Rattle.output.specs.Answers.{left};
 ghost use Rattle.output.specs.WellFormed.{Laid};
 ghost use Rattle.rules.specs.State as state;
-ghost use Rattle.rules.specs.Step as step_rules;
+ghost use Rattle.rules.specs.Run as run_rules;
 ghost use Rattle.capture.specs.Answers as capture_answers;
 ghost use Rattle.coded_capture.specs.Answers as coded_answers;
 ghost use Rattle.full_word.specs.Answers as word_answers;
@@ -20,7 +22,7 @@ use output::{Fate, Output, Packing, SLOTS};
 use rules::{Capture, Core};
 
 // The core after rule 9, and what became of the word. The answer stands first for speed (docs/SPEED.md).
-#[derive(Drop)]
+#[derive(Clone, Copy)]
 pub struct Completed {
     pub packing: Packing,
     pub core: Core,
@@ -29,7 +31,7 @@ pub struct Completed {
 // OVR rises, and the frame closes without FRAME; with CM 1, CAPTURE becomes 0.
 fn lose_frame(s: Capture) -> Capture
     requires { s.registers.ris ≤ 31 }
-    ensures { result ≡ step_rules.lose_frame s }
+    ensures { result ≡ run_rules.lose_frame s }
 {
     if control::snapshot(s.registers.cr) {
         return close_frame(clear_capture(raise_ovr(s)));
@@ -41,7 +43,7 @@ fn lose_frame(s: Capture) -> Capture
 fn full_word(v: u32, s: Capture, o: Output, slots: &mut [u32; SLOTS]) -> Completed
     requires laid { Laid (left o slots.old) }
     requires ris_bound { (s.registers.ris ≤ 31) × (o.counts.completed + 1 < 2 ^ 32) × (o.counts.discarded + o.held + 1 < 2 ^ 32) }
-    ensures { word_answers.completed result slots.new ≡ step_rules.complete (some v) (word_answers.with_word v false s) (left o slots.old) }
+    ensures { word_answers.completed result slots.new ≡ run_rules.complete (some v) (word_answers.with_word v false s) (left o slots.old) }
 {
     let s = apart(s);
     let offered = offer(v, o, slots);
@@ -69,7 +71,7 @@ fn full_word(v: u32, s: Capture, o: Output, slots: &mut [u32; SLOTS]) -> Complet
 pub fn complete(c: Captured, o: Output, slots: &mut [u32; SLOTS]) -> Completed
     requires laid { Laid (left o slots.old) }
     requires ris_bound { (c.state.registers.ris ≤ 31) × (o.counts.completed + 1 < 2 ^ 32) × (o.counts.discarded + o.held + 1 < 2 ^ 32) }
-    ensures { word_answers.completed result slots.new ≡ step_rules.complete (capture_answers.word c.word) (capture_answers.captured c) (left o slots.old) }
+    ensures { word_answers.completed result slots.new ≡ run_rules.complete (capture_answers.word c.word) (capture_answers.captured c) (left o slots.old) }
 {
     let s = c.state;
     let word = c.word;
@@ -93,7 +95,7 @@ pub fn complete(c: Captured, o: Output, slots: &mut [u32; SLOTS]) -> Completed
 pub fn padded_word(v: u32, s: Capture, o: Output, slots: &mut [u32; SLOTS]) -> Completed
     requires laid { Laid (left o slots.old) }
     requires ris_bound { (s.registers.ris ≤ 31) × (o.counts.completed + 1 < 2 ^ 32) × (o.counts.discarded + o.held + 1 < 2 ^ 32) }
-    ensures { word_answers.completed result slots.new ≡ step_rules.complete (some v) (word_answers.with_word v true s) (left o slots.old) }
+    ensures { word_answers.completed result slots.new ≡ run_rules.complete (some v) (word_answers.with_word v true s) (left o slots.old) }
 {
     let c = full_word(v, s, o, slots);
     let core = c.core;
@@ -131,7 +133,7 @@ fn flagged(due: bool, s: Capture) -> Capture
 pub fn complete_coded(c: Coded, o: Output, slots: &mut [u32; SLOTS]) -> Completed
     requires laid { Laid (left o slots.old) }
     requires ris_bound { (c.state.registers.ris ≤ 31) × (o.counts.completed + 1 < 2 ^ 32) × (o.counts.discarded + o.held + 1 < 2 ^ 32) }
-    ensures { word_answers.completed result slots.new ≡ step_rules.complete (capture_answers.word c.word) (coded_answers.coded c) (left o slots.old) }
+    ensures { word_answers.completed result slots.new ≡ run_rules.complete (capture_answers.word c.word) (coded_answers.coded c) (left o slots.old) }
 {
     let s = c.state;
     let word = c.word;

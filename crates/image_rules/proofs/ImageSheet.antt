@@ -1,4 +1,4 @@
--- The words of an image as include/dcmi.h numbers them, proved of the definitions by computation: `image_sheet`, and `judged_sheet` on which words encode an engine. Inverse says that engine and image give each other back,
+-- The words of an image as include/dcmi.h numbers them, proved of the definitions by computation: `image_sheet`, and `judged_sheet` on which words encode a device. Inverse says that device and image give each other back,
 -- in whatever order the words are.
 use mathlib.Core.Bool.{Bool, true, false}
 use mathlib.Core.List.{List, [], ◌∷◌, ◌++◌, map}
@@ -8,7 +8,7 @@ use Rattle.codes.specs.declared.Waiting.{Waiting}
 use Rattle.codes.specs.declared.Waiting.TheVariants.{Zero, One, Two, Three}
 use Rattle.rules.specs.declared.Frame.{Frame}
 use Rattle.rules.specs.declared.Frame.TheVariants.{Closed, Open}
-use Rattle.rules.specs.declared.Engine.{Engine}
+use Rattle.rules.specs.declared.Device.{Device}
 use Rattle.image_rules.specs.Image.{image_of, flags_encode, frame_encodes, encodes}
 
 -- So many numbers from one on.
@@ -16,8 +16,8 @@ abbrev up : ℕ → ℕ → List ℕ
 up zero from = []
 up (suc n) from = from ∷ up n (from + 1)
 
--- An engine whose numbers are 100 and their index, with flags, frame and waiting bytes.
-abbrev with_flags : Bool → Bool → Bool → Bool → Bool → Frame → Waiting → Engine
+-- A device whose numbers are 100 and their index, with flags, frame and waiting bytes.
+abbrev with_flags : Bool → Bool → Bool → Bool → Bool → Frame → Waiting → Device
 with_flags hsync vsync clock hsync_blanked vsync_blanked frame waiting =
     record {
       core =

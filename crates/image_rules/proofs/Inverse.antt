@@ -1,4 +1,4 @@
--- An engine and its image give each other back: `engine_of` and `image_of` are inverse, on engines with all their slots and on images that encode one. Assumes nothing.
+-- A device and its image give each other back: `device_of` and `image_of` are inverse, on devices with all their slots and on images that encode one. Assumes nothing.
 use mathlib.Core.Bool.{Bool, true, false, cond, not, ◌&&◌, ◌||◌}
 use mathlib.Core.List.{List, [], ◌∷◌, ◌++◌, append-nil}
 use mathlib.Core.Path.{◌≡◌, refl, sym, ap, ◌∙◌}
@@ -14,10 +14,10 @@ use Rattle.codes.specs.declared.Waiting.TheVariants.{Zero, One, Two, Three}
 use Rattle.codes.specs.Bytes.{waiting_count}
 use Rattle.rules.specs.declared.Frame.{Frame}
 use Rattle.rules.specs.declared.Frame.TheVariants.{Closed, Open}
-use Rattle.rules.specs.declared.Engine.{Engine}
+use Rattle.rules.specs.declared.Device.{Device}
 use Rattle.output.specs.Output.{slot_count}
 use Rattle.bits.proofs.Booleans.{and_true}
-use Rattle.image_rules.specs.Image.{flag, frame_word, lines_word, pixels_word, image_words, slot, behind, words_behind, image_of, flags_encode, frame_encodes, encodes, frame_of, waiting_of, engine_of}
+use Rattle.image_rules.specs.Image.{flag, frame_word, lines_word, pixels_word, image_words, slot, behind, words_behind, image_of, flags_encode, frame_encodes, encodes, frame_of, waiting_of, device_of}
 
 -- A flag and its word.
 pub flag_back : (b : Bool) → eqb (flag b) 1 ≡ b
@@ -106,15 +106,15 @@ elements_first (suc n) (x ∷ l) le = ap (λ (r : List ℕ). x ∷ r) (elements_
 pub put_whole : (l part : List ℕ) → length part ≡ length l → paste l 0 part (length part) ≡ part
 put_whole l part e = rw (take-length part, zero-add, e, drop-length l, append-nil)
 
--- The image of an engine with all its slots has all its words.
-pub image_size : (d : Engine) → length d.slots ≡ slot_count → length (image_of d) ≡ image_words
+-- The image of a device with all its slots has all its words.
+pub image_size : (d : Device) → length d.slots ≡ slot_count → length (image_of d) ≡ image_words
 unfolding image_of
 image_size d all = rw (length-append d.slots (words_behind d.core), all)
 
--- Every engine with all its slots has an image that encodes it.
-pub engine_back : (d : Engine) → length d.slots ≡ slot_count → engine_of (image_of d) ≡ d
-unfolding engine_of image_of
-engine_back d all =
+-- Every device with all its slots has an image that encodes it.
+pub device_back : (d : Device) → length d.slots ≡ slot_count → device_of (image_of d) ≡ d
+unfolding device_of image_of
+device_back d all =
     let s = d.core.capture in
     let b = words_behind d.core in
     rw (
@@ -129,7 +129,7 @@ engine_back d all =
       waiting_back s.waiting,
     )
 
-pub image_encodes : (d : Engine) → length d.slots ≡ slot_count → encodes (image_of d) ≡ true
+pub image_encodes : (d : Device) → length d.slots ≡ slot_count → encodes (image_of d) ≡ true
 unfolding encodes flags_encode image_of
 image_encodes d all =
     let s = d.core.capture in
@@ -144,9 +144,9 @@ image_encodes d all =
       waiting_fits s.waiting,
     )
 
--- Every image that encodes an engine is the image of that engine: no two images encode one engine.
-pub image_back : (w : List ℕ) → length w ≡ image_words → encodes w ≡ true → image_of (engine_of w) ≡ w
-unfolding encodes flags_encode image_of engine_of elements
+-- Every image that encodes a device is the image of that device: no two images encode one device.
+pub image_back : (w : List ℕ) → length w ≡ image_words → encodes w ≡ true → image_of (device_of w) ≡ w
+unfolding encodes flags_encode image_of device_of elements
 image_back w all e =
     let (flags, rest) = and_true (flags_encode (get_or w 5 0) (get_or w 6 0) (get_or w 7 0) (get_or w 8 0) (get_or w 9 0)) _ e in
     let (frame, few) = and_true (frame_encodes (get_or w 10 0) (get_or w 11 0) (get_or w 12 0)) (leb (get_or (drop behind w) 9 0) 3) rest in

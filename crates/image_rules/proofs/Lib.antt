@@ -1,4 +1,4 @@
 pub mod Inverse
 pub mod ImageSheet
-pub mod DeviceInverse
-pub mod DeviceImageSheet
+pub mod BoardInverse
+pub mod BoardImageSheet

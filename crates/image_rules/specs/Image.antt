@@ -1,4 +1,4 @@
--- The image of an engine: 58 words of 32 bits, as include/dcmi.h names them.
+-- The image of a device: 58 words of 32 bits, as include/dcmi.h names them.
 use Rattle.std.specs.Prelude.{Bool, cond, not, ◌&&◌, ◌||◌, List, [], ◌∷◌, ◌++◌, ℕ, ◌+◌, eqb, leb, take, drop, get_or}
 use Rattle.codes.specs.declared.Waiting.{Waiting}
 use Rattle.codes.specs.declared.Waiting.TheVariants.{Zero, One, Two, Three}
@@ -7,7 +7,7 @@ use Rattle.rules.specs.declared.Frame.{Frame}
 use Rattle.rules.specs.declared.Frame.TheVariants.{Closed, Open}
 use Rattle.rules.specs.declared.Capture.{Capture}
 use Rattle.rules.specs.declared.Core.{Core}
-use Rattle.rules.specs.declared.Engine.{Engine}
+use Rattle.rules.specs.declared.Device.{Device}
 use Rattle.output.specs.declared.Output.{Output}
 use Rattle.output.specs.Output.{slot_count}
 
@@ -38,7 +38,7 @@ slot = 16
 abbrev pub behind : ℕ
 behind = slot + slot_count
 
--- The words of an engine: those before the slots, the slots, and those behind them.
+-- The words of a device: those before the slots, the slots, and those behind them.
 abbrev pub words_before : Capture → List ℕ
 words_before s =
     s.registers.cr ∷
@@ -73,10 +73,10 @@ words_behind s =
     waiting_count s.capture.waiting ∷
     []
 
-unfoldable pub image_of : Engine → List ℕ
+unfoldable pub image_of : Device → List ℕ
 image_of d = words_before d.core.capture ++ d.slots ++ words_behind d.core
 
--- An image encodes an engine: its flags are 0 or 1, the frame is at most 2, a closed one has no lines and no pixels, and at
+-- An image encodes a device: its flags are 0 or 1, the frame is at most 2, a closed one has no lines and no pixels, and at
 -- most 3 bytes wait.
 unfoldable pub flags_encode : ℕ → ℕ → ℕ → ℕ → ℕ → Bool
 flags_encode a b c d e = leb a 1 && (leb b 1 && (leb c 1 && (leb d 1 && leb e 1)))
@@ -89,7 +89,7 @@ encodes w =
     flags_encode (get_or w 5 0) (get_or w 6 0) (get_or w 7 0) (get_or w 8 0) (get_or w 9 0) &&
     (frame_encodes (get_or w 10 0) (get_or w 11 0) (get_or w 12 0) && leb (get_or (drop behind w) 9 0) 3)
 
--- The engine of an image: its parts from the words, and from those behind the slots.
+-- The device of an image: its parts from the words, and from those behind the slots.
 unfoldable pub frame_of : ℕ → ℕ → ℕ → Frame
 frame_of frame lines pixels = cond (eqb frame 0) Closed (Open (eqb frame 2) (record { lines = lines; pixels = pixels }))
 
@@ -118,6 +118,6 @@ output_of b =
       counts = record { samples = get_or b 2 0; completed = get_or b 3 0; landed = get_or b 4 0; discarded = get_or b 5 0 };
     }
 
-unfoldable pub engine_of : List ℕ → Engine
-engine_of w =
+unfoldable pub device_of : List ℕ → Device
+device_of w =
     record { core = record { capture = capture_of w (drop behind w); output = output_of (drop behind w) }; slots = take slot_count (drop slot w) }

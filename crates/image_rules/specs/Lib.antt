@@ -1,2 +1,2 @@
 pub mod Image
-pub mod DeviceImage
+pub mod BoardImage

@@ -1,178 +1,36 @@
--- From a without-buffers made with a depth from 1 to 32 no list of calls, over one memory or two, reaches a malformed one, and completed = landed + held + discarded after every one (W2).
--- The idea: each call keeps a well-formed without-buffers so, over two memories sample by sample (TwoKeeps); disabling discards the tags with the held words. Assumes nothing.
-use mathlib.Core.Bool.{Bool, true, false, cond}
+-- From a device made with a depth from 1 to 32 no list of calls reaches a malformed one, and completed = landed + held + discarded after every one.
+-- The idea: each call keeps a well-formed device so, and the equation is one of its facts. Assumes nothing.
+use mathlib.Core.Bool.{false}
 use mathlib.Core.List.{List, [], ◌∷◌}
-use mathlib.Core.Path.{◌≡◌, refl, ap, subst}
-use Prim.Native.Nat.{ℕ, ◌+◌, ◌^◌, ◌<◌}
-use native.Mathlib.Omega.{arith}
-use lib.Dec.{eqb}
-use lib.ListN.{drop}
-use lib.Pow.{pow_pos}
-use Rattle.bits.proofs.Booleans.{or_false, either, both_false}
-use Rattle.buffers.specs.declared.Turns.{Turns}
-use Rattle.buffers.specs.Turns as turn_rules
-use Rattle.buffers.specs.Turns.{fresh_turns, with_turn, with_tags, with_place_b, with_content}
-use Rattle.refusals.specs.Refusals.{◌⇒◌, first}
-use Rattle.output.specs.declared.Output.{Output}
-use Rattle.output.specs.Output.{with_place}
+use mathlib.Core.Path.{◌≡◌}
+use Prim.Native.Nat.{ℕ, ◌+◌}
 use Rattle.output.specs.WellFormed.{bad_depth}
-use Rattle.rules.specs.declared.Engine.{Engine}
-use Rattle.rules.specs.State.{capture_of, fresh_engine}
-use Rattle.rules.specs.Capture.{enabled}
-use Rattle.rules.specs.WellFormed as engine_clauses
-use Rattle.rules.specs.Run as run_rules
-use Rattle.rules.specs.Effects as effects
-use Rattle.rules.specs.RegisterCalls as register_rules
-use Rattle.rules.proofs.WellFormed.{WellFormed, facts, well_formed}
-use Rattle.laws.specs.Histories as engine_histories
-use Rattle.output.specs.Ledger.{Ledger, discarding_entry, numbers}
-use Rattle.laws.specs.Ledger.{enter, enter_all}
-use Rattle.laws.proofs.Keeps.{fresh_well_formed, run_keeps}
-use Rattle.laws.proofs.KeepsSample.{step_keeps}
-use Rattle.laws.proofs.KeepsWrites.{write_keeps, rearmed_ok}
-use Rattle.laws.proofs.CountsFromHistory.{call_counted}
-use Rattle.rules.specs.declared.Mode.{Mode}
-use Rattle.rules.specs.declared.Mode.TheVariants.{One, Two}
 use Rattle.rules.specs.declared.Device.{Device}
-use Rattle.rules.specs.Device.{is_two, bad_mode, malformed}
-use Rattle.rules.specs.Device as device_state
-use Rattle.rules.specs.RegisterCalls.{mode_after, write, rearmed_mode, rearm, set_mode}
-use Rattle.rules.specs.Run.{run_refusal, run, sample}
-use Rattle.two_memory_rules.specs.TwoRuns.{two_refusal, turns_of, with_buffers, run_two, sample_two}
-use Rattle.two_memory_rules.specs.TwoBuffers.{two_step, two_steps}
-use Rattle.rules.proofs.DeviceFacts.{TurnsOk, turns_facts, turns_well}
-use Rattle.laws.specs.DeviceHistories.{Call, a_write, a_rearming, one_buffer, two_buffers, a_run, a_sample, a_run_two, a_sample_two, after, after_all, reached}
-use Rattle.laws.proofs.TwoKeeps.{two_step_keeps, two_steps_keep}
+use Rattle.rules.specs.WellFormed.{malformed}
+use Rattle.rules.proofs.WellFormed.{facts}
+use Rattle.laws.specs.Histories.{Call, a_write, a_rearming, a_placing, a_run, a_sample, after, after_all, reached}
+use Rattle.laws.proofs.Keeps.{fresh_well_formed, run_keeps, sample_keeps}
+use Rattle.laws.proofs.KeepsWrites.{write_keeps, placing_keeps, rearm_keeps}
 
--- A without-buffers that is not malformed, as facts, and the way back.
-abbrev pub ModeOk : Output → Mode → Type 0
-ModeOk o One = Unit {0}
-ModeOk o (Two t) = TurnsOk o t
+pub call_keeps : (d : Device) (c : Call) → malformed d ≡ false → malformed (after d c) ≡ false
+unfolding after
+call_keeps d (a_write offset value fits) e = write_keeps d offset value fits e
+call_keeps d a_rearming e = rearm_keeps d e
+call_keeps d (a_placing k) e = placing_keeps d k e
+call_keeps d (a_run memory start samples) e = run_keeps d memory start samples e
+call_keeps d (a_sample memory start w) e = sample_keeps d memory start w e
 
-pub device_facts : (b : Device) → malformed b ≡ false → WellFormed b.engine × ModeOk b.engine.core.output b.mode
-unfolding malformed
-device_facts b e =
-    let (d, m) = or_false (engine_clauses.bad_engine b.engine) _ e in
-    (facts b.engine d, go b.mode m)
-  where
-    go : (m : Mode) → bad_mode b.engine.core.output m ≡ false → ModeOk b.engine.core.output m
-    go One e = tt
-    go (Two t) e = turns_facts _ t e
-
-pub device_well : (d : Engine) (m : Mode) → WellFormed d → ModeOk d.core.output m → malformed (record { engine = d; mode = m }) ≡ false
-unfolding malformed
-device_well d m f ok = both_false (engine_clauses.bad_engine d) _ (well_formed d f) (go m ok)
-  where
-    go : (m : Mode) → ModeOk d.core.output m → bad_mode d.core.output m ≡ false
-    go One ok = refl
-    go (Two t) ok = turns_well _ t ok
-
--- A register write. Where ENABLE falls, nothing is held after it.
-turns_after : (falls : Bool) (o o' : Output) (t : Turns) → enter_all (numbers o) (cond falls (engine_histories.disabled ∷ []) []) ≡ numbers o' → TurnsOk o t
-    → TurnsOk o' (cond falls (turn_rules.discarded t) t)
-unfolding enter_all enter discarding_entry turn_rules.discarded with_turn with_tags
-turns_after true o o' t e k =
-    let more = pow_pos o'.held in
-    record { buffers = more; opening = more; place = omega (arith, k.place, ap (λ (l : Ledger). l.landed) e) }
-turns_after false o o' t e k =
-    let held = ap (λ (l : Ledger). l.held) e in
-    record {
-      buffers = subst (λ n. t.in_b < 2 ^ n) held k.buffers;
-      opening = subst (λ n. t.opening < 2 ^ n) held k.opening;
-      place = omega (arith, k.place, ap (λ (l : Ledger). l.landed) e);
-    }
-
-pub write_counted : (d : Engine) (offset v : ℕ) → v < 2 ^ 32
-    → let d' = (register_rules.write d offset v).engine in enter_all (numbers d.core.output) (cond (register_rules.disabled d d') (engine_histories.disabled ∷ []) []) ≡ numbers d'.core.output
-unfolding register_rules.disabled engine_histories.events engine_histories.samplings_of engine_histories.after engine_histories.disabling_of
-write_counted d offset v fits = call_counted d (engine_histories.a_write offset v fits)
-
-mode_after_ok : (falls : Bool) (o o' : Output) (m : Mode) → enter_all (numbers o) (cond falls (engine_histories.disabled ∷ []) []) ≡ numbers o' → ModeOk o m
-    → ModeOk o' (mode_after falls m)
-unfolding mode_after
-mode_after_ok falls o o' One e ok = tt
-mode_after_ok falls o o' (Two t) e ok = turns_after falls o o' t e ok
-
-write_well : (d : Engine) (m : Mode) (offset v : ℕ) → v < 2 ^ 32 → WellFormed d → ModeOk d.core.output m
-    → let d' = (register_rules.write d offset v).engine in malformed (record { engine = d'; mode = mode_after (register_rules.disabled d d') m }) ≡ false
-write_well d m offset v fits f ok =
-    let d' = (register_rules.write d offset v).engine in
-    device_well d' _ (facts d' (write_keeps d offset v fits (well_formed d f)))
-    (mode_after_ok (register_rules.disabled d d') d.core.output d'.core.output m (write_counted d offset v fits) ok)
-
--- Re-arming, and setting the mode.
-rearmed_well : (d : Engine) (m : Mode) → WellFormed d → ModeOk d.core.output m → malformed (record { engine = effects.rearmed d; mode = rearmed_mode m }) ≡ false
-unfolding rearmed_mode effects.rearmed with_place turn_rules.rearmed with_place_b with_content
-rearmed_well d One f ok = device_well (effects.rearmed d) One (rearmed_ok d f) tt
-rearmed_well d (Two t) f ok =
-    device_well (effects.rearmed d) (Two (turn_rules.rearmed t)) (rearmed_ok d f) (record { buffers = ok.buffers; opening = ok.opening; place = omega arith })
-
-fresh_turns_ok : (o : Output) → TurnsOk o fresh_turns
-unfolding fresh_turns
-fresh_turns_ok o = let more = pow_pos o.held in record { buffers = more; opening = more; place = omega arith }
-
-set_well : (m : Mode) (b : Device) → ((o : Output) → ModeOk o m) → malformed b ≡ false → malformed (set_mode m b).device ≡ false
-unfolding set_mode
-set_well m b ok e =
-    either (λ (x : Device). malformed x ≡ false) (eqb (first (malformed b ⇒ 1 ∷ enabled (capture_of b.engine) ⇒ 6 ∷ [])) 0)
-    (device_well (effects.rearmed b.engine) m (rearmed_ok b.engine (device_facts b e).0) (ok _))
-    e
-
--- Samples over one memory, in mode one; over two, in mode two.
-one_well : (b : Device) (d' : Engine) (number : ℕ) → malformed b ≡ false → WellFormed d'
-    → malformed (cond (eqb (cond (malformed b) 1 (cond (is_two b.mode) 16 number)) 0) (record { engine = d'; mode = b.mode }) b) ≡ false
-one_well b d' number e f = rw e (go b.mode refl)
-  where
-    go : (m : Mode) → b.mode ≡ m → malformed (cond (eqb (cond (is_two m) 16 number) 0) (record { engine = d'; mode = m }) b) ≡ false
-    go One is = either (λ (x : Device). malformed x ≡ false) (eqb number 0) (device_well d' One f tt) e
-    go (Two t) is = e
-
-pub opened_ok : (o : Output) (m : Mode) → ModeOk o m → TurnsOk o (turns_of m)
-unfolding turns_of
-opened_ok o One ok = fresh_turns_ok o
-opened_ok o (Two t) ok = ok
-
--- Every call, and every list of calls.
-pub call_keeps : (b : Device) (c : Call) → malformed b ≡ false → malformed (after b c) ≡ false
-unfolding after write rearm run sample run_two sample_two run_refusal
-call_keeps b (a_write offset value fits) e =
-    let (f, ok) = device_facts b e in
-    let number = cond (malformed b) 1 (register_rules.write b.engine offset value).number in
-    either (λ (x : Device). malformed x ≡ false) (eqb number 0) (write_well b.engine b.mode offset value fits f ok) e
-call_keeps b a_rearming e =
-    let (f, ok) = device_facts b e in
-    either (λ (x : Device). malformed x ≡ false) (eqb (first (malformed b ⇒ 1 ∷ [])) 0) (rearmed_well b.engine b.mode f ok) e
-call_keeps b one_buffer e = set_well One b (λ o. tt) e
-call_keeps b two_buffers e = set_well (Two fresh_turns) b fresh_turns_ok e
-call_keeps b (a_run memory start samples) e =
-    one_well b _ (run_rules.run_refusal b.engine memory start samples) e
-    (facts _ (run_keeps b.engine memory start samples (well_formed _ (device_facts b e).0)))
-call_keeps b (a_sample memory start w) e =
-    one_well b _ (run_rules.run_refusal b.engine memory start (w ∷ [])) e (step_keeps b.engine (drop start memory) w (device_facts b e).0)
-call_keeps b (a_run_two lent samples) e =
-    let (f, ok) = device_facts b e in
-    let x = two_steps (with_buffers b lent) samples in
-    let (f', ok') = two_steps_keep (with_buffers b lent) samples f (opened_ok _ b.mode ok) in
-    either (λ (y : Device). malformed y ≡ false) (eqb (two_refusal b lent samples) 0) (device_well x.engine (Two x.turns) f' ok') e
-call_keeps b (a_sample_two lent w) e =
-    let (f, ok) = device_facts b e in
-    let x = (two_step (with_buffers b lent) w).after in
-    let (f', ok') = two_step_keeps (with_buffers b lent) w f (opened_ok _ b.mode ok) in
-    either (λ (y : Device). malformed y ≡ false) (eqb (two_refusal b lent (w ∷ [])) 0) (device_well x.engine (Two x.turns) f' ok') e
-
-calls_keep : (b : Device) (cs : List Call) → malformed b ≡ false → malformed (after_all b cs) ≡ false
+-- What every call keeps, every list of calls keeps.
+pub calls_keep : (P : Device → Type 0) → ((d : Device) (c : Call) → P d → P (after d c)) → (d : Device) (cs : List Call) → P d → P (after_all d cs)
 unfolding after_all
-calls_keep b [] e = e
-calls_keep b (c ∷ cs) e = calls_keep (after b c) cs (call_keeps b c e)
+calls_keep P keeps d [] h = h
+calls_keep P keeps d (c ∷ cs) h = calls_keep P keeps (after d c) cs (keeps d c h)
 
-pub fresh_device_well : (depth : ℕ) → bad_depth depth ≡ false → malformed (device_state.fresh_of depth) ≡ false
-fresh_device_well depth sound = device_well (fresh_engine depth) One (facts _ (fresh_well_formed depth sound)) tt
-
--- No accepted call makes a malformed without-buffers of one that was made.
+-- No accepted call makes a malformed device of one that was made.
 pub never_malformed : (depth : ℕ) → bad_depth depth ≡ false → (cs : List Call) → malformed (reached depth cs) ≡ false
-never_malformed depth sound cs = calls_keep (device_state.fresh_of depth) cs (fresh_device_well depth sound)
+never_malformed depth sound cs = calls_keep (λ d. malformed d ≡ false) call_keeps _ cs (fresh_well_formed depth sound)
 
 -- The counts balance.
 pub conservation : (depth : ℕ) → bad_depth depth ≡ false → (cs : List Call)
-    → let o = (reached depth cs).engine.core.output in o.counts.completed ≡ o.counts.landed + o.held + o.counts.discarded
-conservation depth sound cs = (device_facts (reached depth cs) (never_malformed depth sound cs)).0.output.equation
+    → let o = (reached depth cs).core.output in o.counts.completed ≡ o.counts.landed + o.held + o.counts.discarded
+conservation depth sound cs = (facts (reached depth cs) (never_malformed depth sound cs)).output.equation

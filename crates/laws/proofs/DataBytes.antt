@@ -16,12 +16,12 @@ use Rattle.output.specs.Output.{grant, counted}
 use Rattle.rules.specs.declared.Frame.{Frame}
 use Rattle.rules.specs.declared.Frame.TheVariants.{Closed, Open}
 use Rattle.rules.specs.declared.Capture.{Capture}
-use Rattle.rules.specs.declared.Engine.{Engine}
+use Rattle.rules.specs.declared.Device.{Device}
 use Rattle.rules.specs.State.{capture_of, output_of, raise, clear_capture, close_frame, with_cr, with_ris, with_registers, with_pins, with_frame, with_partial, with_waiting}
 use Rattle.rules.specs.Capture.{Captured, no_word, flagged, working_edge, enabled, remember_pins}
 use Rattle.rules.specs.Codes.{arrived, byte_in, taken_out, at_code, at_byte}
 use Rattle.rules.specs.Sample.{byte_of, edge, capture_sample}
-use Rattle.rules.specs.Step.{lose_frame, after_grant, step}
+use Rattle.rules.specs.Run.{lose_frame, after_grant, step}
 use Rattle.laws.proofs.Coded.{each_joined}
 use Rattle.laws.proofs.Pace.{at_code_waits}
 use Rattle.laws.proofs.KeepsSample.{by_word}
@@ -73,18 +73,18 @@ lost_waits : (s : Capture) → (lose_frame s).waiting ≡ s.waiting
 unfolding lose_frame close_frame with_frame with_partial clear_capture raise with_registers with_cr with_ris
 lost_waits s = either (λ (t : Capture). t.waiting ≡ s.waiting) (snapshot s.registers.cr) refl refl
 
-module _ (d : Engine) (b : List ℕ) (w : ℕ) (coded : embedded d.core.capture.registers.cr ≡ true) where
-  pub step_waits : (step d b w).engine.core.capture.waiting ≡ waits_then (capture_of d) w
+module _ (d : Device) (b : List ℕ) (w : ℕ) (coded : embedded d.core.capture.registers.cr ≡ true) where
+  pub step_waits : (step d b w).device.core.capture.waiting ≡ waits_then (capture_of d) w
   unfolding step after_grant
   step_waits =
       let s = capture_of d in
       let c = capture_sample s w in
       let here = sample_waits s w coded in
       let same = flagged_waits c ∙ here in
-      by_word (λ (e : Engine). e.core.capture.waiting ≡ waits_then s w) c.word c (grant (bus_grant w) (enabled s) (counted (output_of d)) b).state
+      by_word (λ (e : Device). e.core.capture.waiting ≡ waits_then s w) c.word c (grant (bus_grant w) (enabled s) (counted (output_of d)) b).state
       same (λ e. same) (λ v. same) (λ v. lost_waits c.state ∙ here)
 
-  pub data_waits : d.core.capture.waiting ≡ Zero → eqb (byte_of w) 0xFF ≡ false → (step d b w).engine.core.capture.waiting ≡ Zero
+  pub data_waits : d.core.capture.waiting ≡ Zero → eqb (byte_of w) 0xFF ≡ false → (step d b w).device.core.capture.waiting ≡ Zero
   unfolding waiting_after working_edge
   data_waits none other = step_waits ∙ rw none (go (working_edge (capture_of d) w && enabled (capture_of d)))
     where

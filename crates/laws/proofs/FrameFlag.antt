@@ -25,12 +25,12 @@ use Rattle.rules.specs.declared.Syncs.{Syncs}
 use Rattle.rules.specs.declared.Frame.{Frame}
 use Rattle.rules.specs.declared.Frame.TheVariants.{Closed, Open}
 use Rattle.rules.specs.declared.Capture.{Capture}
-use Rattle.rules.specs.declared.Engine.{Engine}
+use Rattle.rules.specs.declared.Device.{Device}
 use Rattle.rules.specs.State.{not_blanking, with_waiting, with_cr, with_ris, with_registers, with_pins, with_syncs, with_frame, with_rate, with_partial, raise, clear_capture, close_frame}
 use Rattle.rules.specs.Capture.{Captured, no_word, flagged, working_edge, enabled, remember_pins, blanking, any_blanks, vsync_flag, line_flag, sync_flags, window_ended, hsync_after_window, frame_rises, frame_due, end_of, frame_closes, frame_end, starts, open_frame, start_of, frame_start, next_pixel, captured, pack, pixel, pixel_in, pixel_edge, at_edge}
 use Rattle.rules.specs.Codes.{coded_syncs, arrived, byte_in, taken_out, frame_opens, line_opens, closes, errs, at_code, at_byte}
 use Rattle.rules.specs.Sample.{byte_of, edge, capture_sample}
-use Rattle.rules.specs.Step.{lose_frame, after_word, complete, after_grant, step}
+use Rattle.rules.specs.Run.{lose_frame, after_word, complete, after_grant, step}
 use Rattle.laws.specs.FrameHistory.{byte_due, due_at, is_lost}
 use Rattle.bits.proofs.Raised.{raised_other, raised_up}
 use Rattle.laws.proofs.FrameEdges.{with_flags, sync_flags_flagged}
@@ -161,19 +161,19 @@ lose_frame_other s =
     either (λ (t : Capture). flag t ≡ flag s) (snapshot s.registers.cr) other other
 
 after_word_flag : (f : Fate) (v : ℕ) (c : Captured) (x : OutputState)
-    → let r = after_word f v c x in flag r.engine.core.capture ≡ flag c.state || (c.due && not (is_lost r.packed))
+    → let r = after_word f v c x in flag r.device.core.capture ≡ flag c.state || (c.due && not (is_lost r.packed))
 unfolding after_word is_lost
 after_word_flag Held v c x = rw (and_unit c.due) (flagged_flag c)
 after_word_flag Lost v c x = rw (and_zero c.due, or_unit (flag c.state)) (lose_frame_other c.state)
 
 complete_flag : (o : Option ℕ) (c : Captured) (x : OutputState)
-    → let r = complete o c x in flag r.engine.core.capture ≡ flag c.state || (c.due && not (is_lost r.packed))
+    → let r = complete o c x in flag r.device.core.capture ≡ flag c.state || (c.due && not (is_lost r.packed))
 unfolding complete is_lost
 complete_flag none c x = rw (and_unit c.due) (flagged_flag c)
 complete_flag (some v) c x = after_word_flag (offer v x).fate v c (offer v x).state
 
-pub frame_rises_by_rule_4 : (d : Engine) (b : List ℕ) (w : ℕ)
-    → let s = d.core.capture in let r = step d b w in bit 0 r.engine.core.capture.registers.ris
+pub frame_rises_by_rule_4 : (d : Device) (b : List ℕ) (w : ℕ)
+    → let s = d.core.capture in let r = step d b w in bit 0 r.device.core.capture.registers.ris
     ≡ bit 0 s.registers.ris || (due_at s w && not (is_lost r.packed))
 unfolding step after_grant
 frame_rises_by_rule_4 d b w =

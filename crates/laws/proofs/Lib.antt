@@ -11,8 +11,9 @@ pub mod KeepsSample
 pub mod Keeps
 pub mod WriteControl
 pub mod KeepsWrites
-pub mod Moves
+pub mod Conservation
 pub mod CountsFromHistory
+pub mod Moments
 pub mod Flags
 pub mod WindowLines
 pub mod FrameEdges
@@ -23,6 +24,7 @@ pub mod Unpadded
 pub mod UnpaddedSample
 pub mod Before
 pub mod Depth
+pub mod NoDevice
 pub mod Padding
 pub mod Pace
 pub mod DataBytes
@@ -30,4 +32,3 @@ pub mod CodeStream
 pub mod SyncPins
 pub mod Seeking
 pub mod OpenFrames
-pub mod TwoKeeps

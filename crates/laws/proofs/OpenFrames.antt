@@ -1,14 +1,18 @@
 -- In an open frame VSYNC does not blank, over every depth and every list of calls (`open_frame_runs`): what `lost_at_once` asks for (W6). The idea: where VSYNC blanks, by its pin or by a frame end code, no frame
 -- is open after the edge; a write that opens none leaves the rest. Assumes nothing.
 use mathlib.Core.Bool.{Bool, true, false, cond}
-use mathlib.Core.List.{List}
+use mathlib.Core.List.{List, [], ◌∷◌}
 use mathlib.Core.Path.{◌≡◌, refl}
 use Prim.Native.Nat.{ℕ}
+use lib.Dec.{eqb, ltb}
+use lib.ListN.{drop}
 use Rattle.bits.proofs.Booleans.{either}
 use Rattle.registers.specs.Control.{capture, enable}
+use Rattle.registers.specs.Map.{register_at}
 use Rattle.registers.specs.declared.Register.TheVariants.{Control, Status, RawStatus, InterruptEnable, MaskedStatus, InterruptClear, EmbeddedCode, EmbeddedUnmask, WindowStart, WindowSize}
 use Rattle.registers.specs.declared.Found.{Found}
 use Rattle.registers.specs.declared.Found.TheVariants.{At, Nothing}
+use Rattle.refusals.specs.Refusals.{◌⇒◌, first}
 use Rattle.samples.specs.Samples.{pixel_data}
 use Rattle.codes.specs.declared.Waiting.TheVariants.{Zero}
 use Rattle.codes.specs.declared.Meaning.{Meaning}
@@ -18,20 +22,21 @@ use Rattle.rules.specs.declared.Syncs.{Syncs}
 use Rattle.rules.specs.declared.Frame.{Frame}
 use Rattle.rules.specs.declared.Frame.TheVariants.{Closed, Open}
 use Rattle.rules.specs.declared.Capture.{Capture}
-use Rattle.rules.specs.declared.Engine.{Engine}
-use Rattle.rules.specs.State.{fresh_engine, fresh_capture, raise, close_frame, with_cr, with_ris, with_ier, with_cwstrt, with_cwsize, with_escr, with_esur, with_registers, with_pins, with_syncs, with_frame, with_rate, with_partial, with_waiting}
+use Rattle.rules.specs.declared.Device.{Device}
+use Rattle.rules.specs.State.{fresh_of, fresh_capture, raise, close_frame, with_cr, with_ris, with_ier, with_cwstrt, with_cwsize, with_escr, with_esur, with_registers, with_pins, with_syncs, with_frame, with_rate, with_partial, with_waiting}
 use Rattle.rules.specs.Capture.{Captured, no_word, flagged, remember_pins, blanking, end_of, frame_closes, at_edge}
 use Rattle.rules.specs.Codes.{arrived, byte_in, taken_out, frame_opens, line_opens, closes, errs, at_code, at_byte}
 use Rattle.rules.specs.Sample.{byte_of, capture_sample}
-use Rattle.rules.specs.Effects.{enabling, disabling, switch_enable, capture_rises, switch_capture, write_control, clear_flags, write_register, write_at}
-use Rattle.rules.specs.Step.{lose_frame, after_grant, step}
-use Rattle.laws.specs.Histories.{Call, reached}
+use Rattle.rules.specs.RegisterCalls.{enabling, disabling, switch_enable, capture_rises, switch_capture, write_control, clear_flags, write_register, write_at, write_refusal, write, rearmed, rearm}
+use Rattle.rules.specs.Run.{lose_frame, after_grant, step, steps, run_refusal, run, sample}
+use Rattle.rules.specs.WellFormed.{malformed}
+use Rattle.laws.specs.Histories.{Call, a_write, a_rearming, a_placing, a_run, a_sample, after, reached}
 use Rattle.laws.specs.Seeking.{RunsIn, Runs}
 use Rattle.laws.proofs.KeepsSample.{by_word}
+use Rattle.laws.proofs.Conservation.{calls_keep}
 use Rattle.laws.proofs.FrameEdges.{blanks, at_edge_closed}
 use Rattle.laws.proofs.FrameCodes.{each_same}
 use Rattle.laws.proofs.ByCode.{by_code, by_sample}
-use Rattle.laws.proofs.Moves.{by_calls}
 
 -- Whatever the frame, where VSYNC does not blank; whatever it is, where no frame is open.
 runs_on : (f : Frame) → RunsIn f false
@@ -111,12 +116,17 @@ lost_runs : (s : Capture) → Runs (lose_frame s)
 unfolding lose_frame close_frame with_frame with_partial
 lost_runs s = tt
 
-step_runs : (d : Engine) (b : List ℕ) (w : ℕ) → Runs d.core.capture → Runs (step d b w).engine.core.capture
+step_runs : (d : Device) (b : List ℕ) (w : ℕ) → Runs d.core.capture → Runs (step d b w).device.core.capture
 unfolding step after_grant
 step_runs d b w runs =
     let c = capture_sample d.core.capture w in
     let after = flagged_runs c (sample_runs d.core.capture w runs) in
-    by_word (λ (e : Engine). Runs e.core.capture) _ _ _ after (λ e. after) (λ v. after) (λ v. lost_runs c.state)
+    by_word (λ (e : Device). Runs e.core.capture) _ _ _ after (λ e. after) (λ v. after) (λ v. lost_runs c.state)
+
+steps_run : (d : Device) (b ws : List ℕ) → Runs d.core.capture → Runs (steps d b ws).device.core.capture
+unfolding steps
+steps_run d b [] runs = runs
+steps_run d b (w ∷ ws) runs = steps_run (step d b w).device (step d b w).buffer ws (step_runs d b w runs)
 
 -- Writes.
 control_runs : (v : ℕ) (s : Capture) → Runs s → Runs (write_control v s)
@@ -126,7 +136,7 @@ control_runs v s runs =
     let same = either P (enable s.registers.cr) (either P (enable v) runs tt) (either P (enable v) tt runs) in
     either P (capture_rises v s) same same
 
-write_at_runs : (d : Engine) (r : Found) (v : ℕ) → Runs d.core.capture → Runs (write_at d r v).core.capture
+write_at_runs : (d : Device) (r : Found) (v : ℕ) → Runs d.core.capture → Runs (write_at d r v).core.capture
 unfolding write_at write_register with_registers with_ier clear_flags with_ris with_cwstrt with_cwsize with_escr with_esur
 write_at_runs d Nothing v runs = runs
 write_at_runs d (At Control) v runs = control_runs v d.core.capture runs
@@ -140,15 +150,18 @@ write_at_runs d (At EmbeddedUnmask) v runs = runs
 write_at_runs d (At WindowStart) v runs = runs
 write_at_runs d (At WindowSize) v runs = runs
 
-pub open_frame_runs : (depth : ℕ) (cs : List Call) → Runs (reached depth cs).engine.core.capture
-unfolding fresh_engine fresh_capture
-open_frame_runs depth cs =
-    by_calls (λ e es. Runs e.core.capture)
-    (record {
-      written = λ e es r v w free h. write_at_runs e r v h;
-      placed = λ e es k h. h;
-      sampled = λ e es b w h. step_runs e b w h;
-      armed = λ e es h. h;
-      set = λ e es h. h;
-    })
-    depth tt cs
+-- Every call, and every list of calls.
+call_runs : (d : Device) (c : Call) → Runs d.core.capture → Runs (after d c).core.capture
+unfolding after write rearm rearmed run sample
+call_runs d (a_write offset value fits) runs =
+    either (λ (e : Device). Runs e.core.capture) (eqb (write_refusal d offset value) 0) (write_at_runs d (register_at offset) value runs) runs
+call_runs d a_rearming runs = either (λ (e : Device). Runs e.core.capture) (eqb (first (malformed d ⇒ 1 ∷ [])) 0) runs runs
+call_runs d (a_placing k) runs = either (λ (e : Device). Runs e.core.capture) (ltb d.core.output.counts.landed k) runs runs
+call_runs d (a_run memory start samples) runs =
+    either (λ (e : Device). Runs e.core.capture) (eqb (run_refusal d memory start samples) 0) (steps_run d (drop start memory) samples runs) runs
+call_runs d (a_sample memory start w) runs =
+    either (λ (e : Device). Runs e.core.capture) (eqb (run_refusal d memory start (w ∷ [])) 0) (step_runs d (drop start memory) w runs) runs
+
+pub open_frame_runs : (depth : ℕ) (cs : List Call) → Runs (reached depth cs).core.capture
+unfolding fresh_of fresh_capture
+open_frame_runs depth cs = calls_keep (λ d. Runs d.core.capture) call_runs (fresh_of depth) cs tt

@@ -24,13 +24,13 @@ use Rattle.rules.specs.declared.Syncs.{Syncs}
 use Rattle.rules.specs.declared.Frame.{Frame}
 use Rattle.rules.specs.declared.Frame.TheVariants.{Closed, Open}
 use Rattle.rules.specs.declared.Capture.{Capture}
-use Rattle.rules.specs.declared.Engine.{Engine}
-use Rattle.rules.specs.State.{engine, output_of, is_open, not_blanking, no_partial, raise, clear_capture, close_frame, with_cr, with_ris, with_registers, with_pins, with_syncs, with_frame, with_rate, with_partial, with_waiting}
+use Rattle.rules.specs.declared.Device.{Device}
+use Rattle.rules.specs.State.{device, output_of, is_open, not_blanking, no_partial, raise, clear_capture, close_frame, with_cr, with_ris, with_registers, with_pins, with_syncs, with_frame, with_rate, with_partial, with_waiting}
 use Rattle.rules.specs.Capture.{Captured, no_word, flagged, working_edge, enabled, remember_pins}
 use Rattle.rules.specs.Codes.{seeks, arrived, byte_in, taken_out, frame_opens, sought, at_code, at_byte, frame_ended}
 use Rattle.rules.specs.Sample.{byte_of, edge, capture_sample}
-use Rattle.rules.specs.Step.{lose_frame, after_word, complete, after_grant, step, steps}
-use Rattle.rules.specs.Effects.{enabling, disabling, switch_enable, capture_rises, switch_capture, write_control}
+use Rattle.rules.specs.Run.{lose_frame, after_word, complete, after_grant, step, steps}
+use Rattle.rules.specs.RegisterCalls.{enabling, disabling, switch_enable, capture_rises, switch_capture, write_control}
 use Rattle.laws.specs.Seeking.{counts, found_by, found_at, none_found, NoWords, SearchGoesOn, Emptied, RunsIn, Runs}
 use Rattle.laws.proofs.Errors.{no_word_in_error, fallen_in_error}
 use Rattle.laws.proofs.FrameCodes.{each_same}
@@ -125,14 +125,14 @@ sample_searched s w coded seeking = rw coded (go (working_edge s w && enabled s)
 
 -- The whole sample, without a word.
 quiet_complete : (o : Option ℕ) (c : Captured) (x : OutputState) → o ≡ none → c.due ≡ false
-    → let r = complete o c x in (r.engine.core.capture ≡ c.state) × (r.packed ≡ nothing) × (output_of r.engine ≡ cond c.error (discard 0 x) x)
+    → let r = complete o c x in (r.device.core.capture ≡ c.state) × (r.packed ≡ nothing) × (output_of r.device ≡ cond c.error (discard 0 x) x)
 unfolding complete flagged
 quiet_complete none c x e quiet = (rw quiet, refl, refl)
 quiet_complete (some v) c x e quiet = let z : ◌≡◌ {A = ℕ} 0 1 = cc in absurd (omega arith)
 
-module _ (d : Engine) (b : List ℕ) (w : ℕ) (coded : embedded d.core.capture.registers.cr ≡ true) (seeking : seeks d.core.capture ≡ true) where
-  step_searched : Searched d.core.capture (found_at d.core.capture w) (no_word (step d b w).engine.core.capture) × ((step d b w).packed ≡ nothing)
-      × Untouched (counted (output_of d)) (output_of (step d b w).engine)
+module _ (d : Device) (b : List ℕ) (w : ℕ) (coded : embedded d.core.capture.registers.cr ≡ true) (seeking : seeks d.core.capture ≡ true) where
+  step_searched : Searched d.core.capture (found_at d.core.capture w) (no_word (step d b w).device.core.capture) × ((step d b w).packed ≡ nothing)
+      × Untouched (counted (output_of d)) (output_of (step d b w).device)
   unfolding step after_grant no_word
   step_searched =
       let s = d.core.capture in
@@ -145,21 +145,21 @@ module _ (d : Engine) (b : List ℕ) (w : ℕ) (coded : embedded d.core.capture.
       )
 
   -- One sample.
-  pub seeking_raises_no_flag : ((step d b w).engine.core.capture.registers ≡ d.core.capture.registers) × ((step d b w).packed ≡ nothing)
+  pub seeking_raises_no_flag : ((step d b w).device.core.capture.registers ≡ d.core.capture.registers) × ((step d b w).packed ≡ nothing)
   unfolding no_word
   seeking_raises_no_flag = (step_searched.0.registers, step_searched.1)
 
-  pub seeks_on : found_at d.core.capture w ≡ false → seeks (step d b w).engine.core.capture ≡ true
+  pub seeks_on : found_at d.core.capture w ≡ false → seeks (step d b w).device.core.capture ≡ true
   unfolding no_word
   seeks_on e = step_searched.0.on e
 
-  seeking_counts : ((step d b w).engine.core.output.counts.completed ≡ d.core.output.counts.completed)
-      × ((step d b w).engine.core.output.counts.discarded ≡ d.core.output.counts.discarded)
+  seeking_counts : ((step d b w).device.core.output.counts.completed ≡ d.core.output.counts.completed)
+      × ((step d b w).device.core.output.counts.discarded ≡ d.core.output.counts.discarded)
   unfolding counted count_sample with_counts
   seeking_counts = let left = step_searched.2 in (left.completed, left.discarded)
 
 -- Every list of samples that does not end the search.
-pub no_flag_until_found : (d : Engine) (b ws : List ℕ) → embedded d.core.capture.registers.cr ≡ true → seeks d.core.capture ≡ true → none_found d b ws ≡ true
+pub no_flag_until_found : (d : Device) (b ws : List ℕ) → embedded d.core.capture.registers.cr ≡ true → seeks d.core.capture ≡ true → none_found d b ws ≡ true
     → SearchGoesOn d b ws
 unfolding steps none_found NoWords
 no_flag_until_found d b [] coded seeking unfound = record { seeks = seeking; registers = refl; no_words = tt; completed = refl; discarded = refl }
@@ -167,7 +167,7 @@ no_flag_until_found d b (w ∷ ws) coded seeking unfound =
     let (here, later) = and_true (not (found_at d.core.capture w)) _ unfound in
     let (same, silent) = seeking_raises_no_flag d b w coded seeking in
     let (completed, discarded) = seeking_counts d b w coded seeking in
-    let rest = no_flag_until_found (step d b w).engine (step d b w).buffer ws (rw same coded) (seeks_on d b w coded seeking (not-true _ here)) later in
+    let rest = no_flag_until_found (step d b w).device (step d b w).buffer ws (rw same coded) (seeks_on d b w coded seeking (not-true _ here)) later in
     record {
       seeks = rest.seeks;
       registers = rest.registers ∙ same;
@@ -177,7 +177,7 @@ no_flag_until_found d b (w ∷ ws) coded seeking unfound =
     }
 
 -- ERR.
-pub error_seeks : (d : Engine) (b : List ℕ) (w : ℕ) → (capture_sample d.core.capture w).error ≡ true → Emptied (step d b w).engine
+pub error_seeks : (d : Device) (b : List ℕ) (w : ℕ) → (capture_sample d.core.capture w).error ≡ true → Emptied (step d b w).device
 unfolding step after_grant complete discard holding with_held count_discarded with_counts
 error_seeks d b w rises =
     let s = d.core.capture in
@@ -185,7 +185,7 @@ error_seeks d b w rises =
     let x = (grant (bus_grant w) (enabled s) (counted (output_of d)) b).state in
     let f = fallen_in_error s w rises in
     let (same, none_packed, left) = quiet_complete c.word c x (no_word_in_error s w rises) f.due in
-    let emptied : (complete c.word c x).engine.core.output.held ≡ 0 = ap (λ (y : OutputState). y.output.held) left ∙ rw rises in
+    let emptied : (complete c.word c x).device.core.output.held ≡ 0 = ap (λ (y : OutputState). y.output.held) left ∙ rw rises in
     record { frame = rw same f.frame; partial = rw same f.partial; held = emptied; seeks = rw same f.seeking }
 
 -- An overrun by data that a byte releases.
@@ -217,15 +217,15 @@ lost_frame : (s : Capture) → s.syncs.vsync ≡ false → ((lose_frame s).frame
 unfolding lose_frame close_frame with_partial with_frame clear_capture raise with_registers with_cr with_ris seeks
 lost_frame s runs = (refl, refl, either (λ (t : Capture). not t.syncs.vsync ≡ true) (snapshot s.registers.cr) (rw runs) (rw runs))
 
-complete_lost : (o : Option ℕ) (c : Captured) (x : OutputState) → ((v : ℕ) → o ≡ some v → c.state.syncs.vsync ≡ false) → (complete o c x).packed ≡ lost → Emptied (complete o c x).engine
+complete_lost : (o : Option ℕ) (c : Captured) (x : OutputState) → ((v : ℕ) → o ≡ some v → c.state.syncs.vsync ≡ false) → (complete o c x).packed ≡ lost → Emptied (complete o c x).device
 unfolding complete after_word discard holding with_held
 complete_lost none c x runs = λ is. let z : ◌≡◌ {A = ℕ} 0 1 = cc in absurd (omega arith)
 complete_lost (some v) c x runs = go (offer v x).fate (offer v x).state
   where
-    go : (f : Fate) (y : OutputState) → (after_word f v c y).packed ≡ lost → Emptied (after_word f v c y).engine
+    go : (f : Fate) (y : OutputState) → (after_word f v c y).packed ≡ lost → Emptied (after_word f v c y).device
     go Held y is = let z : ◌≡◌ {A = ℕ} 0 1 = cc in absurd (omega arith)
     go Lost y is = let (frame, partial, seeking) = lost_frame c.state (runs v refl) in record { frame = frame; partial = partial; held = refl; seeks = seeking }
 
-pub lost_at_once : (d : Engine) (b : List ℕ) (w : ℕ) → embedded d.core.capture.registers.cr ≡ true → Runs d.core.capture → (step d b w).packed ≡ lost → Emptied (step d b w).engine
+pub lost_at_once : (d : Device) (b : List ℕ) (w : ℕ) → embedded d.core.capture.registers.cr ≡ true → Runs d.core.capture → (step d b w).packed ≡ lost → Emptied (step d b w).device
 unfolding step after_grant
 lost_at_once d b w coded runs = complete_lost _ _ _ (λ v. sample_runs d.core.capture w v coded runs)

@@ -1,4 +1,4 @@
--- With ESS 1 the sync pins play no part but in the remembered levels (W6): from two engines that differ in these at most, two samples that differ in bits 14 and 15 at most make the same but for
+-- With ESS 1 the sync pins play no part but in the remembered levels (W6): from two devices that differ in these at most, two samples that differ in bits 14 and 15 at most make the same but for
 -- these (`sync_pins_ignored`), and so do lists of samples, after each (`sync_pins_ignored_by_all`). The idea: no rule from 3 on reads the levels, and with ESS 1 none reads the pins.
 -- Assumes nothing.
 use mathlib.Core.Bool.{Bool, true, false, cond, not, ◌&&◌}
@@ -25,12 +25,12 @@ use Rattle.rules.specs.declared.Scan.{Scan}
 use Rattle.rules.specs.declared.Frame.{Frame}
 use Rattle.rules.specs.declared.Frame.TheVariants.{Closed, Open}
 use Rattle.rules.specs.declared.Capture.{Capture}
-use Rattle.rules.specs.declared.Engine.{Engine}
-use Rattle.rules.specs.State.{engine, capture_of, output_of, is_open, not_blanking, raise, clear_capture, close_frame, with_cr, with_ris, with_registers, with_pins, with_syncs, with_frame, with_rate, with_partial, with_waiting}
+use Rattle.rules.specs.declared.Device.{Device}
+use Rattle.rules.specs.State.{device, capture_of, output_of, is_open, not_blanking, raise, clear_capture, close_frame, with_cr, with_ris, with_registers, with_pins, with_syncs, with_frame, with_rate, with_partial, with_waiting}
 use Rattle.rules.specs.Capture.{Captured, no_word, flagged, working_edge, enabled, remember_pins, vsync_flag, line_flag, sync_flags, window_ended, hsync_after_window, frame_rises, frame_due, end_of, frame_closes, next_rate, takes, in_window, captured, packed_bits, pack, either_word}
 use Rattle.rules.specs.Codes.{in_line, coded_syncs, seeks, arrived, before, datum, each_datum, byte_in, taken_out, frame_opens, line_opens, closes, errs, line_start, obeyed, sought, at_code, at_byte, line_ended, frame_ended}
 use Rattle.rules.specs.Sample.{byte_of, edge, capture_sample}
-use Rattle.rules.specs.Step.{lose_frame, Completed, after_word, complete, after_grant, Stepped, step}
+use Rattle.rules.specs.Run.{lose_frame, Completed, after_word, complete, after_grant, Stepped, step}
 use Rattle.laws.specs.Before.{stepped_by}
 use Rattle.laws.specs.SyncPins.{without_levels, unleveled, stepped_unleveled, SameButSyncs, AllSameButSyncs}
 use Rattle.laws.proofs.RegisterValues.{same_embedded, half_setup}
@@ -168,7 +168,7 @@ module _ (p : Pins) where
   lose_frame_pins s = ap close_frame (chosen_state p (snapshot s.registers.cr) (clear_capture (raise 1 s)) _ (raise 1 s) _ refl refl)
 
   completed_pins : Completed → Completed
-  completed_pins r = record { engine = engine (with_pins p r.engine.core.capture) (output_of r.engine); packed = r.packed }
+  completed_pins r = record { device = device (with_pins p r.device.core.capture) (output_of r.device); packed = r.packed }
 
   after_word_pins : (f : Fate) (v : ℕ) (c : Captured) (x : OutputState) → after_word f v (repinned p c) x ≡ completed_pins (after_word f v c x)
   unfolding after_word completed_pins
@@ -187,13 +187,13 @@ by_byte s x k = cond (cond (pckpol s.registers.cr) (not s.pins.clock && k) (s.pi
 seen : Bool → Pins
 seen k = record { hsync = false; vsync = false; clock = k }
 
-by_data : Engine → List ℕ → ℕ → Bool → Bool → Stepped
+by_data : Device → List ℕ → ℕ → Bool → Bool → Stepped
 by_data d b x k granted =
     let s = capture_of d in
     let g = grant granted (enabled s) (counted (output_of d)) b in
     let c = by_byte s x k in
     let r = complete c.word c g.state in
-    record { engine = engine (with_pins (seen k) r.engine.core.capture) (output_of r.engine); buffer = g.buffer; landing = g.landing; packed = r.packed }
+    record { device = device (with_pins (seen k) r.device.core.capture) (output_of r.device); buffer = g.buffer; landing = g.landing; packed = r.packed }
 
 by_byte_pins : (s : Capture) (x : ℕ) (k : Bool) → by_byte (without_levels s) x k ≡ repinned (seen s.pins.clock) (by_byte s x k)
 unfolding by_byte seen no_word without_levels with_pins
@@ -207,7 +207,7 @@ unfolding capture_sample edge byte_of working_edge by_byte remember_pins no_word
 sample_by_byte s w coded =
     rw coded (chosen (remember_pins w s).pins (working_edge s w && enabled s) (at_byte s (byte_of w)) _ (no_word s) _ (at_byte_pins (remember_pins w s).pins s (byte_of w)) refl)
 
-step_by_data : (d : Engine) (b : List ℕ) (w : ℕ) → embedded d.core.capture.registers.cr ≡ true
+step_by_data : (d : Device) (b : List ℕ) (w : ℕ) → embedded d.core.capture.registers.cr ≡ true
     → stepped_unleveled (step d b w) ≡ by_data (unleveled d) b (pixel_data w) (clock_pin w) (bus_grant w)
 unfolding step after_grant by_data seen stepped_unleveled unleveled without_levels completed_pins remember_pins with_pins
 step_by_data d b w coded =
@@ -216,22 +216,22 @@ step_by_data d b w coded =
     let g = grant (bus_grant w) (enabled s) (counted (output_of d)) b in
     let c = by_byte s (pixel_data w) k in
     let made : Completed → Stepped =
-    λ r. record { engine = engine (with_pins (seen k) r.engine.core.capture) (output_of r.engine); buffer = g.buffer; landing = g.landing; packed = r.packed } in
-    let left : Captured → Stepped = λ c. stepped_unleveled (record { engine = (complete c.word c g.state).engine; buffer = g.buffer; landing = g.landing; packed = (complete c.word c g.state).packed }) in
+    λ r. record { device = device (with_pins (seen k) r.device.core.capture) (output_of r.device); buffer = g.buffer; landing = g.landing; packed = r.packed } in
+    let left : Captured → Stepped = λ c. stepped_unleveled (record { device = (complete c.word c g.state).device; buffer = g.buffer; landing = g.landing; packed = (complete c.word c g.state).packed }) in
     ap left (sample_by_byte s w coded) ∙
-    (ap (λ (r : Completed). stepped_unleveled (record { engine = r.engine; buffer = g.buffer; landing = g.landing; packed = r.packed })) (complete_pins (remember_pins w s).pins c.word c g.state) ∙
+    (ap (λ (r : Completed). stepped_unleveled (record { device = r.device; buffer = g.buffer; landing = g.landing; packed = r.packed })) (complete_pins (remember_pins w s).pins c.word c g.state) ∙
     sym
     (ap (λ (c : Captured). made (complete c.word c g.state)) (by_byte_pins s (pixel_data w) k) ∙
     ap made (complete_pins (seen s.pins.clock) c.word c g.state)))
 
-pub sync_pins_ignored : (d d' : Engine) (b : List ℕ) (w w' : ℕ) → embedded d.core.capture.registers.cr ≡ true → unleveled d ≡ unleveled d' → SameButSyncs w w'
+pub sync_pins_ignored : (d d' : Device) (b : List ℕ) (w w' : ℕ) → embedded d.core.capture.registers.cr ≡ true → unleveled d ≡ unleveled d' → SameButSyncs w w'
     → stepped_unleveled (step d b w) ≡ stepped_unleveled (step d' b w')
 unfolding unleveled without_levels with_pins
 sync_pins_ignored d d' b w w' coded same e =
-    let same_cr : d'.core.capture.registers.cr ≡ d.core.capture.registers.cr = sym (ap (λ (x : Engine). x.core.capture.registers.cr) same) in
+    let same_cr : d'.core.capture.registers.cr ≡ d.core.capture.registers.cr = sym (ap (λ (x : Device). x.core.capture.registers.cr) same) in
     step_by_data d b w coded ∙ (rw (same, e.data_bits, e.clock, e.grant) (sym (step_by_data d' b w' (rw same_cr coded))))
 
-pub sync_pins_ignored_by_all : (d d' : Engine) (b ws ws' : List ℕ) → embedded d.core.capture.registers.cr ≡ true → unleveled d ≡ unleveled d' → AllSameButSyncs ws ws'
+pub sync_pins_ignored_by_all : (d d' : Device) (b ws ws' : List ℕ) → embedded d.core.capture.registers.cr ≡ true → unleveled d ≡ unleveled d' → AllSameButSyncs ws ws'
     → map stepped_unleveled (stepped_by step d b ws) ≡ map stepped_unleveled (stepped_by step d' b ws')
 unfolding stepped_by stepped_unleveled
 sync_pins_ignored_by_all d d' b [] [] coded same e = refl
@@ -243,6 +243,6 @@ sync_pins_ignored_by_all d d' b (w ∷ ws) (w' ∷ ws') coded same e =
     let here = sync_pins_ignored d d' b w w' coded same e.0 in
     let same_buffer : r.buffer ≡ r'.buffer = ap (λ (x : Stepped). x.buffer) here in
     let coded_stays = same_embedded _ _ (half_setup _ _ (step_half d b w)) ∙ coded in
-    let later = sync_pins_ignored_by_all r.engine r'.engine r.buffer ws ws' coded_stays (ap (λ (x : Stepped). x.engine) here) e.1 in
-    let there = later ∙ ap (λ buffer. map stepped_unleveled (stepped_by step r'.engine buffer ws')) same_buffer in
+    let later = sync_pins_ignored_by_all r.device r'.device r.buffer ws ws' coded_stays (ap (λ (x : Stepped). x.device) here) e.1 in
+    let there = later ∙ ap (λ buffer. map stepped_unleveled (stepped_by step r'.device buffer ws')) same_buffer in
     λ i. here i ∷ there i

@@ -15,11 +15,11 @@ use Rattle.rules.specs.declared.Syncs.{Syncs}
 use Rattle.rules.specs.declared.Frame.{Frame}
 use Rattle.rules.specs.declared.Frame.TheVariants.{Closed, Open}
 use Rattle.rules.specs.declared.Capture.{Capture}
-use Rattle.rules.specs.declared.Engine.{Engine}
+use Rattle.rules.specs.declared.Device.{Device}
 use Rattle.rules.specs.State.{capture_of, output_of, close_frame, with_frame, with_partial, raise, with_ris, with_registers, with_pins, with_syncs}
 use Rattle.rules.specs.Capture.{no_word, flagged, working_edge, enabled, remember_pins, blanking, any_blanks, vsync_flag, line_flag, sync_flags, frame_rises, frame_due, padded, frame_closes, frame_pads, padded_at, frame_end, frame_start, pixel_edge, either_word, at_edge}
 use Rattle.rules.specs.Sample.{edge, capture_sample}
-use Rattle.rules.specs.Step.{lose_frame, after_grant, step}
+use Rattle.rules.specs.Run.{lose_frame, after_grant, step}
 use Rattle.laws.proofs.Kept.{flagged_kept, early_kept}
 use Rattle.laws.proofs.KeepsSample.{by_word}
 use Rattle.laws.proofs.Moved.{no_pixel}
@@ -98,15 +98,15 @@ sample_without_data s w plain blanks none_waits = rw plain (go (working_edge s w
     go true = edge_without_data (remember_pins w s) (blanking s w) (pixel_data w) blanks none_waits
     go false = none_waits
 
-pub step_without_data : (d : Engine) (b : List ℕ) (w : ℕ) → embedded d.core.capture.registers.cr ≡ false → beq (vsync_pin w) (vspol d.core.capture.registers.cr) ≡ true
-    → d.core.capture.partial.count ≡ 0 → (step d b w).engine.core.capture.partial.count ≡ 0
+pub step_without_data : (d : Device) (b : List ℕ) (w : ℕ) → embedded d.core.capture.registers.cr ≡ false → beq (vsync_pin w) (vspol d.core.capture.registers.cr) ≡ true
+    → d.core.capture.partial.count ≡ 0 → (step d b w).device.core.capture.partial.count ≡ 0
 unfolding step after_grant lose_frame close_frame with_partial with_frame
 step_without_data d b w plain blanks none_waits =
     let s = capture_of d in
     let c = capture_sample s w in
     let none_left = sample_without_data s w plain blanks none_waits in
     let same : (flagged c).partial.count ≡ 0 = omega (arith, (flagged_kept c).fewer, none_left) in
-    by_word (λ (e : Engine). e.core.capture.partial.count ≡ 0) c.word c (grant (bus_grant w) (enabled s) (counted (output_of d)) b).state same (λ e. same) (λ v. same) (λ v. refl)
+    by_word (λ (e : Device). e.core.capture.partial.count ≡ 0) c.word c (grant (bus_grant w) (enabled s) (counted (output_of d)) b).state same (λ e. same) (λ v. same) (λ v. refl)
 
 -- Of a sample that pads a word.
 flags_cr : (s : Capture) (now : Syncs) → (sync_flags s now).registers.cr ≡ s.registers.cr

@@ -15,13 +15,13 @@ use Rattle.rules.specs.declared.Syncs.{Syncs}
 use Rattle.rules.specs.declared.Frame.{Frame}
 use Rattle.rules.specs.declared.Frame.TheVariants.{Closed, Open}
 use Rattle.rules.specs.declared.Capture.{Capture}
-use Rattle.rules.specs.declared.Engine.{Engine}
+use Rattle.rules.specs.declared.Device.{Device}
 use Rattle.rules.specs.CropWindow.{lines_to_window_end}
 use Rattle.rules.specs.State.{capture_of, output_of, raise, clear_capture, close_frame, with_cr, with_ris, with_registers, with_pins, with_syncs, with_frame, with_rate, with_partial}
 use Rattle.rules.specs.Capture.{Captured, no_word, flagged, working_edge, enabled, remember_pins, blanking, any_blanks, sync_flags, window_ended, hsync_after_window, frame_rises, frame_due, end_of, frame_closes, frame_pads, padded_at, frame_end, next_rate, takes, open_frame, starts, start_of, frame_start, pixel_in, pixel_edge, either_word, at_edge}
 use Rattle.rules.specs.Sample.{edge, capture_sample}
 use Rattle.rules.specs.Unpadded.{unpadded_end, unpadded_edge, unpadded_sample}
-use Rattle.rules.specs.Step.{Completed, complete, after_grant, step}
+use Rattle.rules.specs.Run.{Completed, complete, after_grant, step}
 use Rattle.rules.proofs.WellFormed.{CaptureOk}
 use Rattle.laws.proofs.CaptureParts.{pins_syncs_ok}
 use Rattle.laws.proofs.Kept.{Kept, then, sync_flags_kept, flagged_kept, frame_closes_kept, frame_start_kept}
@@ -106,16 +106,16 @@ sample_unpadded s w y plain e = rw plain (go (working_edge s w && enabled s) e)
     go true e = edge_unpadded _ (sync_flags seen (blanking s w)) (blanking s w) (pixel_data w) y refl (pads_seen s w (blanking s w) ∙ e)
     go false e = refl
 
-pub step_unpadded : (d : Engine) (b : List ℕ) (w : ℕ) → embedded d.core.capture.registers.cr ≡ false → padded_at (capture_of d) w ≡ none
+pub step_unpadded : (d : Device) (b : List ℕ) (w : ℕ) → embedded d.core.capture.registers.cr ≡ false → padded_at (capture_of d) w ≡ none
     → let s = capture_of d in
     let g = grant (bus_grant w) (enabled s) (counted (output_of d)) b in
     let c = now_and_then (unpadded_sample s w) g.state in
-    step d b w ≡ record { engine = c.engine; buffer = g.buffer; landing = g.landing; packed = c.packed }
+    step d b w ≡ record { device = c.device; buffer = g.buffer; landing = g.landing; packed = c.packed }
 unfolding step after_grant
 step_unpadded d b w plain e =
     let s = capture_of d in
     let g = grant (bus_grant w) (enabled s) (counted (output_of d)) b in
-    ap (λ (c : Completed). record { engine = c.engine; buffer = g.buffer; landing = g.landing; packed = c.packed }) (sample_unpadded s w g.state plain e)
+    ap (λ (c : Completed). record { device = c.device; buffer = g.buffer; landing = g.landing; packed = c.packed }) (sample_unpadded s w g.state plain e)
 
 -- Such a sample leaves a well-formed state well-formed.
 pub unpadded_end_kept : (s : Capture) (now : Syncs) → Kept s (unpadded_end s now)

@@ -8,11 +8,11 @@ use Rattle.rules.specs.declared.Syncs.{Syncs}
 use Rattle.rules.specs.declared.Frame.{Frame}
 use Rattle.rules.specs.declared.Frame.TheVariants.{Closed, Open}
 use Rattle.rules.specs.declared.Capture.{Capture}
-use Rattle.rules.specs.declared.Engine.{Engine}
-use Rattle.rules.specs.State.{engine, capture_of, output_of, with_syncs, raise, clear_capture, close_frame}
+use Rattle.rules.specs.declared.Device.{Device}
+use Rattle.rules.specs.State.{device, capture_of, output_of, with_syncs, raise, clear_capture, close_frame}
 use Rattle.rules.specs.Capture.{Captured, no_word, flagged, working_edge, enabled, remember_pins, blanking, sync_flags, frame_start, pixel_edge, at_edge}
 use Rattle.rules.specs.Unpadded.{unpadded_sample}
-use Rattle.rules.specs.Step.{Completed, after_word, Stepped}
+use Rattle.rules.specs.Run.{Completed, after_word, Stepped}
 
 -- Before W1, rule 4 in document 01's words: an open frame closes when VSYNC blanks. A partial word is dropped. If the frame was one of those taken, FRAME rises and, with CM 1,
 -- CAPTURE becomes 0.
@@ -45,28 +45,28 @@ capture_sample_before_W6 s w =
 
 -- Before W6, rule 9: ERR never rises, and where no full word came nothing is discarded.
 unfoldable pub complete_before_W6 : Option ℕ → Captured → OutputState → Completed
-complete_before_W6 none c x = record { engine = engine (flagged c) x; packed = nothing }
+complete_before_W6 none c x = record { device = device (flagged c) x; packed = nothing }
 complete_before_W6 (some v) c x = after_word (offer v x).fate v c (offer v x).state
 
 -- The nine rules with such rules 2 to 8, and with that rule 9.
-unfoldable pub step_by : (Capture → ℕ → Captured) → Engine → List ℕ → ℕ → Stepped
+unfoldable pub step_by : (Capture → ℕ → Captured) → Device → List ℕ → ℕ → Stepped
 step_by captures d buffer w =
     let s = capture_of d in
     let g = grant (bus_grant w) (enabled s) (counted (output_of d)) buffer in
     let c = complete_before_W6 (captures s w).word (captures s w) g.state in
-    record { engine = c.engine; buffer = g.buffer; landing = g.landing; packed = c.packed }
+    record { device = c.device; buffer = g.buffer; landing = g.landing; packed = c.packed }
 
-abbrev pub step_before_W1 : Engine → List ℕ → ℕ → Stepped
+abbrev pub step_before_W1 : Device → List ℕ → ℕ → Stepped
 step_before_W1 = step_by capture_sample_before_W1
 
 -- Before W4 no sample padded a word.
-abbrev pub step_before_W4 : Engine → List ℕ → ℕ → Stepped
+abbrev pub step_before_W4 : Device → List ℕ → ℕ → Stepped
 step_before_W4 = step_by unpadded_sample
 
-abbrev pub step_before_W6 : Engine → List ℕ → ℕ → Stepped
+abbrev pub step_before_W6 : Device → List ℕ → ℕ → Stepped
 step_before_W6 = step_by capture_sample_before_W6
 
--- What some samples make of engine and frame buffer one after the other, by one rule or another for a sample: both, and the answers, after each.
-unfoldable pub stepped_by : (Engine → List ℕ → ℕ → Stepped) → Engine → List ℕ → List ℕ → List Stepped
+-- What some samples make of device and frame buffer one after the other, by one rule or another for a sample: both, and the answers, after each.
+unfoldable pub stepped_by : (Device → List ℕ → ℕ → Stepped) → Device → List ℕ → List ℕ → List Stepped
 stepped_by rule d buffer [] = []
-stepped_by rule d buffer (w ∷ ws) = let r = rule d buffer w in r ∷ stepped_by rule r.engine r.buffer ws
+stepped_by rule d buffer (w ∷ ws) = let r = rule d buffer w in r ∷ stepped_by rule r.device r.buffer ws

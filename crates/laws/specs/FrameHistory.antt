@@ -16,7 +16,7 @@ use Rattle.rules.specs.State.{is_open}
 use Rattle.rules.specs.Codes.{in_line, seeks, line_ended, frame_ended}
 use Rattle.rules.specs.Sample.{byte_of}
 use Rattle.output.specs.Output.{Packed, nothing, completed, lost}
-use Rattle.laws.specs.Histories.{Event, sampled, disabled, rearmed, mode_set}
+use Rattle.laws.specs.Histories.{Event, sampled, disabled}
 
 -- Since the frame started, HSYNC has blanked at a working edge after line VST + VLINE had begun, or with ESS 1 an end code has come after that (W6); and how often FRAME was
 -- due by rule 4.
@@ -94,8 +94,6 @@ sampling_entry h s w = cond (working_edge s w && enabled s) (cond (embedded s.re
 unfoldable pub frame_entry : FrameHistory → Event → FrameHistory
 frame_entry h (sampled s w landing packed) = sampling_entry h s w
 frame_entry h disabled = h
-frame_entry h rearmed = h
-frame_entry h mode_set = h
 
 unfoldable pub frame_entries : FrameHistory → List Event → FrameHistory
 frame_entries h [] = h

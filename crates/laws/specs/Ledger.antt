@@ -3,7 +3,7 @@ use Rattle.std.specs.Prelude.{Bool, cond, List, [], ◌∷◌, ◌+◌}
 use Rattle.output.specs.Output.{Packed, nothing, completed, lost}
 use Rattle.output.specs.Ledger.{Ledger, blank, sample_entry, landing_entry, discarding_entry}
 use Rattle.rules.specs.Sample.{capture_sample}
-use Rattle.laws.specs.Histories.{Event, sampled, disabled, rearmed, mode_set}
+use Rattle.laws.specs.Histories.{Event, sampled, disabled}
 
 -- Completed is the number of times that rule 9 was reached, by the second answer: the word is held; or it is lost, and the held words and it are thrown away.
 unfoldable pub word_entry : Packed → Ledger → Ledger
@@ -17,12 +17,10 @@ word_entry lost l =
 unfoldable pub error_entry : Bool → Ledger → Ledger
 error_entry rises l = cond rises (discarding_entry l) l
 
--- What an event enters: a sample, rule 1 before rule 9; disabling, which throws the held words away. Re-arming and setting the mode enter nothing. All events, in order.
+-- What an event enters: a sample, rule 1 before rule 9; disabling, which throws the held words away. All events, in order.
 unfoldable pub enter : Ledger → Event → Ledger
 enter l (sampled found w landing packed) = error_entry (capture_sample found w).error (word_entry packed (landing_entry landing (sample_entry l)))
 enter l disabled = discarding_entry l
-enter l rearmed = l
-enter l mode_set = l
 
 unfoldable pub enter_all : Ledger → List Event → Ledger
 enter_all l [] = l

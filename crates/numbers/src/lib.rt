@@ -1,5 +1,7 @@
 // Numbers as bytes, little-endian, for the crates of this repository alone: those that some bytes are, a byte beyond the end of the slice reading as 0; and the
 // lowest bytes of one put into a buffer. proofs/ has the laws that what is put reads back, and what is read is put as it was.
+#![tactic(auto)]
+
 ghost use Rattle.std.specs.Prelude.{◌≡◌, ◌+◌, ◌<◌, ◌≤◌, ◌^◌, length, get_or};
 ghost use Rattle.std.proofs.lemmas.List.Edits.{sets};
 ghost use Rattle.numbers.specs.Numbers.{little, number_at};

@@ -1,6 +1,8 @@
 // Words on their way to memory: counts, a FIFO and the next place in the frame buffer. Here are the types; rule 1, given the grant and ENABLE as truth values, and
 // of rule 9 the count, the test for full, holding and discarding are definitions (specs/), with their laws and computed cases (proofs/). What a lost word does besides is the
 // rule of the module that lost it. Nothing here knows of a camera. The functions that change the slots are in `fifo`.
+#![tactic(auto)]
+
 
 // How many slots there are, for the greatest depth; and the depth where none is named.
 pub const SLOTS: usize = 32;
@@ -8,7 +10,7 @@ pub const SLOTS: usize = 32;
 pub const USUAL_DEPTH: u32 = 4;
 
 // Counts since reset.
-#[derive(Drop)]
+#[derive(Clone, Copy)]
 pub struct Counts {
     pub completed: u32,
     pub samples: u32,
@@ -18,7 +20,7 @@ pub struct Counts {
 
 // The number of words held, the place of the next word to land, since the last re-arming, the depth, which is the most words that can be held, and the counts. The
 // held words stand in the first slots, oldest first. The order of the fields means nothing to the rules (docs/SPEED.md).
-#[derive(Drop)]
+#[derive(Clone, Copy)]
 pub struct Output {
     pub held: u32,
     pub counts: Counts,
@@ -27,35 +29,35 @@ pub struct Output {
 }
 
 // Rule 1's answer. At: the oldest held word landed at this byte of the frame buffer (`lands`). Nowhere: no word did (`no_landing`).
-#[derive(Drop)]
+#[derive(Clone, Copy)]
 pub enum Landing {
     Nowhere,
     At(usize),
 }
 
 // The output after rule 1, and where a word landed. The answer stands first for speed (docs/SPEED.md).
-#[derive(Drop)]
+#[derive(Clone, Copy)]
 pub struct Granted {
     pub landing: Landing,
     pub output: Output,
 }
 
 // What became of a full word.
-#[derive(Drop)]
+#[derive(Clone, Copy)]
 pub enum Fate {
     Held,
     Lost,
 }
 
 // The output after a full word, and what became of the word.
-#[derive(Drop)]
+#[derive(Clone, Copy)]
 pub struct Offered {
     pub output: Output,
     pub fate: Fate,
 }
 
 // A sample's second answer, of its own word. Nothing: none was completed. Completed: one was, with its value, and is held. Lost: one was lost.
-#[derive(Drop)]
+#[derive(Clone, Copy)]
 pub enum Packing {
     Nothing,
     Completed(u32),

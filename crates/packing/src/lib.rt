@@ -1,5 +1,7 @@
 // Rule 8's layout: how EDM lays data out in words of 32 bits. It knows of no device. The functions are for the crates of this repository, which call them with an
 // EDM of at most 3.
+#![tactic(auto)]
+
 ghost use Rattle.std.specs.Prelude.{◌≡◌, ◌*◌, ◌≤◌, ◌<◌, ◌^◌};
 ghost use Rattle.packing.specs.Packing as packing_rules;
 

@@ -10,7 +10,7 @@ use lib.ListN.{length, take, drop, get_or, length-drop, take-append-drop, drop_o
 use lib.Seq.{sets, length-sets, drop-cons, drop-drop, take_at, take-add, length-take-le, drop-length}
 use borrow.Author.Tests.{eqb-true, ltb-false}
 use Rattle.numbers.specs.Numbers.{number_at}
-use Rattle.rules.specs.declared.Engine.{Engine}
+use Rattle.rules.specs.declared.Device.{Device}
 use Rattle.rules.specs.Run.{RunResult, run}
 use Rattle.sampling.proofs.AcceptedRuns.{accepted_run}
 use Rattle.trace_format.specs.Format.{header_length, sample_size}
@@ -78,7 +78,7 @@ begins h n some =
 all_gone : (r : List ℕ) (n : ℕ) → length r ≡ n → drop n r ≡ []
 all_gone r n e = rw (← e) (drop-length r)
 
-module _ (start : ℕ) (h : List ℕ) (passes : Passes h) (j : ℕ) (item : List ℕ) (long : length item ≡ 5) (d : Engine) (m : List ℕ) where
+module _ (start : ℕ) (h : List ℕ) (passes : Passes h) (j : ℕ) (item : List ℕ) (long : length item ≡ 5) (d : Device) (m : List ℕ) where
   one_run : (k : ℕ) (ws : List ℕ) → length ws ≡ k → (k ≡ 0 → ⊥) → (run d m start ws).number ≡ 0 → singles start d m ws ≡ run d m start ws
   unfolding run
   one_run k ws many some accepted =
@@ -88,7 +88,7 @@ module _ (start : ℕ) (h : List ℕ) (passes : Passes h) (j : ℕ) (item : List
       same.whole (same.number pos ∙ accepted) pos
 
   run_at_once : (k : ℕ) (r ws : List ℕ) → j + k ≤ sample_count h → length r ≡ sample_size * k → length ws ≡ k → (k ≡ 0 → ⊥) → samples_in k r ≡ ws → (run d m start ws).number ≡ 0
-      → take_bytes start (at h (sample_start h j) item d 0 m) r ≡ at h (sample_start h j + sample_size * k) no_item (run d m start ws).engine 0 (run d m start ws).memory
+      → take_bytes start (at h (sample_start h j) item d 0 m) r ≡ at h (sample_start h j + sample_size * k) no_item (run d m start ws).device 0 (run d m start ws).memory
   unfolding take_bytes
   run_at_once zero r ws inside full many some are accepted = absurd (some refl)
   run_at_once (suc k) r ws inside full many some are accepted =
@@ -97,7 +97,7 @@ module _ (start : ℕ) (h : List ℕ) (passes : Passes h) (j : ℕ) (item : List
       ∙ rw (are, all_gone r (sample_size * suc k) full, one_run (suc k) ws many some accepted, accepted, last)
 
 -- Bytes that are counted only.
-pub counted : (start : ℕ) (h : List ℕ) (n : ℕ) (item : List ℕ) (d : Engine) (number : ℕ) (m bs : List ℕ) → wants h n ≡ true → header_length (version_of h) ≤ n → eqb number 0 ≡ false
+pub counted : (start : ℕ) (h : List ℕ) (n : ℕ) (item : List ℕ) (d : Device) (number : ℕ) (m bs : List ℕ) → wants h n ≡ true → header_length (version_of h) ≤ n → eqb number 0 ≡ false
     → length bs ≤ whole h + 1 - n → at h (n + length bs) item d number m ≡ take_bytes start (at h n item d number m) bs
 counted start h n item d number m bs more low some few =
     let (passes, within) = wants_within h n more low in
@@ -121,8 +121,8 @@ module _ (h : List ℕ) (n : ℕ) (bytes : List ℕ) (from : ℕ) (within : from
       let l = samples_in_length k (drop from bytes) in
       rw (filled, put_over array (samples_in k (drop from bytes)) k l few.0) (take_at (samples_in k (drop from bytes)) (drop k array) k l)
 
-  pub stretch_taken : (start : ℕ) (item : List ℕ) (d : Engine) (number : ℕ) (m : List ℕ) (r : RunResult) → length item ≡ 5 → eqb number 0 ≡ true → (k ≡ 0 → ⊥) → r ≡ run d m start (take k array') → r.number ≡ 0
-      → at h (n + sample_size * k) no_item r.engine r.number r.memory ≡ take_bytes start (at h n item d number m) (take (sample_size * k) (drop from bytes))
+  pub stretch_taken : (start : ℕ) (item : List ℕ) (d : Device) (number : ℕ) (m : List ℕ) (r : RunResult) → length item ≡ 5 → eqb number 0 ≡ true → (k ≡ 0 → ⊥) → r ≡ run d m start (take k array') → r.number ≡ 0
+      → at h (n + sample_size * k) no_item r.device r.number r.memory ≡ take_bytes start (at h n item d number m) (take (sample_size * k) (drop from bytes))
   stretch_taken start item d number m r long fine some is accepted =
       let ws : List ℕ = samples_in k (drop from bytes) in
       let ran : r ≡ run d m start ws = is ∙ ap (run d m start) front_samples in
@@ -130,7 +130,7 @@ module _ (h : List ℕ) (n : ℕ) (bytes : List ℕ) (from : ℕ) (within : from
       let b = begins h n (omega (arith, few.1, positive k some)) in
       let once = run_at_once start h b.passes b.place item long d m k (take (sample_size * k) (drop from bytes)) ws (omega (arith, b.left, few.1)) (length-take-le (sample_size * k) (drop from bytes) there) (samples_in_length k (drop from bytes)) some (front k (drop from bytes) there) none in
       rw (eqb-true number 0 fine, ran, none)
-      (ap (λ (x : ℕ). at h (x + sample_size * k) no_item (run d m start ws).engine 0 (run d m start ws).memory) b.is
+      (ap (λ (x : ℕ). at h (x + sample_size * k) no_item (run d m start ws).device 0 (run d m start ws).memory) b.is
       ∙ sym once
       ∙ ap (λ (x : ℕ). take_bytes start (at h x item d 0 m) (take (sample_size * k) (drop from bytes))) (sym b.is))
 

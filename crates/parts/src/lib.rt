@@ -1,50 +1,52 @@
 // Running a trace file by parts: a state takes the file's bytes as they come, cut in any way, and the end answers as for the whole file. The state never answers a
 // refusal of the file: it remembers the first refused write or sample and goes on counting. A part's samples are run by stretches, its other bytes one at a time.
+#![tactic(auto)]
+
 ghost use Rattle.std.specs.Prelude.{true, List, ◌≡◌, ℕ, ◌+◌, ◌*◌, ◌≤◌, ◌<◌, ◌^◌, min, eqb, length, take, drop};
 ghost use Rattle.refusals.specs.Table.{outcome as number};
 ghost use Rattle.rules.specs.RegisterCalls as register_rules;
 ghost use Rattle.trace_format.specs.Format as format;
 ghost use Rattle.trace_format.specs.Reading as reading;
-ghost use Rattle.engine.specs.Answers as engine_answers;
+ghost use Rattle.device.specs.Answers as device_answers;
 ghost use Rattle.file_rules.specs.Parts as parts_rules;
 ghost use Rattle.parts.specs.Answers as parts_answers;
 ghost use Rattle.parts.specs.Forward as forward;
 
-use engine::Changed;
+use device::Changed;
 use refusals::{Outcome, Refusal};
-use rules::Engine;
+use rules::Device;
 use trace::{
     Samples, check_header, form_of, header_length, sample_count, sample_in, samples_at,
     samples_start, write_in,
 };
 
-// The state between two parts: the header as far as it has come, how many bytes have come, the bytes of the write or sample that has begun, the engine, and the first
+// The state between two parts: the header as far as it has come, how many bytes have come, the bytes of the write or sample that has begun, the device, and the first
 // refused write or sample.
-#[derive(Drop)]
+#[derive(Clone, Copy)]
 pub struct Parts {
     pub head: [u8; 10],
     pub taken: usize,
     pub item: [u8; 5],
-    pub engine: Engine,
+    pub device: Device,
     pub outcome: Outcome,
 }
 
 // A state after some bytes of a part, and how many.
-#[derive(Drop)]
+#[derive(Clone, Copy)]
 struct Forward {
     parts: Parts,
     bytes: usize,
 }
 
-// The state before the first byte, with an engine: a fresh one, or one made with a depth, for the run of a file. A malformed one is refused, 1, at the first write or sample.
-pub fn open(engine: Engine) -> Parts
-    ensures { parts_answers.state result ≡ parts_rules.opened engine }
+// The state before the first byte, with a device: a fresh one, or one made with a depth, for the run of a file. A malformed one is refused, 1, at the first write or sample.
+pub fn open(device: Device) -> Parts
+    ensures { parts_answers.state result ≡ parts_rules.opened device }
 {
     Parts {
         head: [0; 10],
         taken: 0,
         item: [0; 5],
-        engine,
+        device,
         outcome: Outcome::Accepted,
     }
 }
@@ -93,13 +95,13 @@ fn next(parts: Parts, head: [u8; 10], item: [u8; 5]) -> Parts
     requires { parts.taken < 2 ^ 35 }
     ensures { parts_answers.state result ≡ parts_rules.next (parts_answers.state parts) head item }
 {
-    let engine = parts.engine;
+    let device = parts.device;
     let outcome = parts.outcome;
     Parts {
         head,
         taken: parts.taken + 1,
         item,
-        engine,
+        device,
         outcome,
     }
 }
@@ -110,16 +112,16 @@ fn after_write(parts: Parts) -> Parts
 {
     let head = parts.head;
     let item = parts.item;
-    let d = parts.engine;
+    let d = parts.device;
     let w = write_in(&item);
-    let written = engine::write(d, w.offset as u32, w.value);
-    let engine = written.engine;
+    let written = device::write(d, w.offset as u32, w.value);
+    let device = written.device;
     let outcome = written.outcome;
     Parts {
         head,
         taken: parts.taken,
         item: [0; 5],
-        engine,
+        device,
         outcome,
     }
 }
@@ -129,16 +131,16 @@ fn after_sample(parts: Parts, memory: &mut [u8], start: usize) -> Parts
 {
     let head = parts.head;
     let item = parts.item;
-    let d = parts.engine;
+    let d = parts.device;
     let samples = [sample_in(&item)];
-    let ran = engine::run(d, memory, start, &samples);
-    let engine = ran.engine;
+    let ran = device::run(d, memory, start, &samples);
+    let device = ran.device;
     let outcome = ran.outcome;
     Parts {
         head,
         taken: parts.taken,
         item: [0; 5],
-        engine,
+        device,
         outcome,
     }
 }
@@ -279,9 +281,9 @@ fn take_samples(parts: Parts, bytes: &[u8], at: usize, memory: &mut [u8], start:
         let Samples::Many(n) = next else {
             return Forward { parts, bytes: 0 };
         };
-        let d = parts.engine;
-        let ran = engine::run(d, memory, start, &samples[..n]);
-        let engine = ran.engine;
+        let d = parts.device;
+        let ran = device::run(d, memory, start, &samples[..n]);
+        let device = ran.device;
         let outcome = ran.outcome;
         let Outcome::Accepted = outcome else {
             return Forward { parts, bytes: 0 };
@@ -292,7 +294,7 @@ fn take_samples(parts: Parts, bytes: &[u8], at: usize, memory: &mut [u8], start:
             head,
             taken: passed,
             item: cleared(item),
-            engine,
+            device,
             outcome,
         };
         return Forward {
@@ -330,13 +332,13 @@ fn count_bytes(parts: Parts, n: usize) -> Forward
         let whole = whole(&head);
         let bytes = fewer(n, whole + 1 - taken);
         let item = parts.item;
-        let engine = parts.engine;
+        let device = parts.device;
         let passed = taken + bytes;
         let after = Parts {
             head,
             taken: passed,
             item,
-            engine,
+            device,
             outcome,
         };
         return Forward {
@@ -385,19 +387,19 @@ pub fn take(parts: Parts, bytes: &[u8], memory: &mut [u8], start: usize) -> Part
     p
 }
 
-// A refused file: no engine.
+// A refused file: no device.
 fn refused(outcome: Outcome) -> Changed
-    ensures { (number result.outcome ≡ number outcome) × (result.engine ≡ register_rules.no-engine) }
+    ensures { (number result.outcome ≡ number outcome) × (result.device ≡ register_rules.no_device) }
 {
     Changed {
-        engine: engine::no_engine(),
+        device: device::no_device(),
         outcome,
     }
 }
 
-// The end of the file: the form checks 13, 10, 11, 13, 12, 13, the first refused write's or sample's number, 9; or the engine after the file. Memory and start are those of the calls of `take`.
+// The end of the file: the form checks 13, 10, 11, 13, 12, 13, the first refused write's or sample's number, 9; or the device after the file. Memory and start are those of the calls of `take`.
 pub fn end(parts: Parts, memory: &[u8], start: usize) -> Changed
-    ensures { engine_answers.changed result ≡ parts_rules.ended (parts_answers.state parts) memory.now start }
+    ensures { device_answers.changed result ≡ parts_rules.ended (parts_answers.state parts) memory.now start }
 {
     let head = parts.head;
     let form = form_of(&head, parts.taken);
@@ -408,12 +410,12 @@ pub fn end(parts: Parts, memory: &[u8], start: usize) -> Changed
     let Outcome::Accepted = outcome else {
         return refused(outcome);
     };
-    let engine = parts.engine;
+    let device = parts.device;
     if memory.len() < start {
         return refused(Outcome::Refused(Refusal::StartBeyond));
     }
     Changed {
-        engine,
+        device,
         outcome: Outcome::Accepted,
     }
 }

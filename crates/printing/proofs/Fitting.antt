@@ -13,7 +13,7 @@ use Rattle.refusals.proofs.Numbered.{numbered}
 use Rattle.text.specs.Text.{ascii, decimal}
 use Rattle.text.specs.Putting.{Put, putting, put}
 use Rattle.text.proofs.Digits.{decimal_length, hex_length}
-use Rattle.rules.specs.declared.Engine.{Engine}
+use Rattle.rules.specs.declared.Device.{Device}
 use Rattle.printing.specs.Printed.{count_line, flags_line, word_line, word_lines, report, lines, line}
 
 count_fits : (name : List ℕ) (n : ℕ) → length name ≤ 10 → n < 2 ^ 32 → length (count_line name n) ≤ 32
@@ -32,14 +32,14 @@ words_fit memory k zero j = omega arith
 words_fit memory k (suc n) zero = rw (length-append, hex_length) (omega arith)
 words_fit memory k (suc n) (suc j) = words_fit memory (suc k) n j
 
--- The counts of an engine have 32 bits.
-pub record Counted (d : Engine) : Type 0 where
+-- The counts of a device have 32 bits.
+pub record Counted (d : Device) : Type 0 where
   pub samples : d.core.output.counts.samples < 2 ^ 32
   pub landed : d.core.output.counts.landed < 2 ^ 32
   pub held : d.core.output.held < 2 ^ 32
   pub discarded : d.core.output.counts.discarded < 2 ^ 32
 
-module _ (d : Engine) (memory : List ℕ) (c : Counted d) where
+module _ (d : Device) (memory : List ℕ) (c : Counted d) where
   report_fits : (k : ℕ) → length (get_or (report d memory) k []) ≤ 32
   unfolding report
   report_fits zero = count_fits (ascii "samples ") _ (omega arith) c.samples

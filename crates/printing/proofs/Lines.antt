@@ -8,7 +8,7 @@ use native.Mathlib.Omega.{arith}
 use lib.Dec.{eqb}
 use lib.ListN.{length, get_or}
 use Rattle.output.specs.Output.{word_at}
-use Rattle.rules.specs.declared.Engine.{Engine}
+use Rattle.rules.specs.declared.Device.{Device}
 use Rattle.text.specs.Text.{ascii}
 use Rattle.printing.specs.Printed.{count_line, word_line, word_lines, report, lines, printed, line, asked}
 
@@ -23,7 +23,7 @@ unfolding asked flatten
 in_order [] = refl
 in_order (l ∷ ls) = ap (λ (r : List ℕ). l ++ r) (later (λ k. get_or (l ∷ ls) k []) 0 (length ls) ∙ in_order ls)
 
-pub printed_in_lines : (number : ℕ) (d : Engine) (memory : List ℕ) → asked (line number d memory) 0 (length (lines number d memory)) ≡ printed number d memory
+pub printed_in_lines : (number : ℕ) (d : Device) (memory : List ℕ) → asked (line number d memory) 0 (length (lines number d memory)) ≡ printed number d memory
 unfolding printed
 printed_in_lines number d memory = in_order (lines number d memory)
 
@@ -46,7 +46,7 @@ words_over memory k (suc n) zero h = absurd (omega arith)
 words_over memory k (suc n) (suc j) h = words_over memory (suc k) n j (omega arith)
 
 -- The lines of the words behind the five of counts and flags.
-module _ (d : Engine) (memory : List ℕ) where
+module _ (d : Device) (memory : List ℕ) where
   words : List (List ℕ)
   words = word_lines memory 0 d.core.output.counts.landed
 
@@ -68,7 +68,7 @@ module _ (d : Engine) (memory : List ℕ) where
   no_line k high past = ap (λ (x : ℕ). get_or (report d memory) x []) (fifth k high) ∙ behind (k - 5) ∙ words_over memory 0 _ (k - 5) past
 
 -- A refusal has one line, and none behind it.
-pub refused_lines : (number : ℕ) (d : Engine) (memory : List ℕ) → eqb number 0 ≡ false → lines number d memory ≡ count_line (ascii "refused ") number ∷ []
+pub refused_lines : (number : ℕ) (d : Device) (memory : List ℕ) → eqb number 0 ≡ false → lines number d memory ≡ count_line (ascii "refused ") number ∷ []
 unfolding lines
 refused_lines number d memory e = rw e
 

@@ -6,7 +6,7 @@ use Prim.Native.Nat.{ℕ, ◌<◌}
 use lib.Dec.{eqb}
 use lib.ListN.{get_or}
 use borrow.Author.Tests.{eqb-true}
-use Rattle.rules.specs.declared.Engine.{Engine}
+use Rattle.rules.specs.declared.Device.{Device}
 use Rattle.rules.specs.State.{fresh}
 use Rattle.rules.specs.Run.{RunResult}
 use Rattle.file_rules.specs.File.{run_on}
@@ -19,23 +19,23 @@ use Rattle.printing.specs.Printed.{lines, printed, blank, printed_file}
 
 -- The text of a run.
 abbrev text_of : RunResult → List ℕ
-text_of r = printed r.number r.engine r.memory
+text_of r = printed r.number r.device r.memory
 
 -- Of a refused file the memory is not printed.
-refused_alike : (number : ℕ) (d : Engine) (m m' : List ℕ) → eqb number 0 ≡ false → printed number d m ≡ printed number d m'
+refused_alike : (number : ℕ) (d : Device) (m m' : List ℕ) → eqb number 0 ≡ false → printed number d m ≡ printed number d m'
 unfolding printed lines
 refused_alike number d m m' e = rw e
 
 module _ (parts : List (List ℕ)) (bytes : (i : ℕ) → get_or (joined parts) i 0 < 256) where
-  pub printed_by_parts : let r = run_parts fresh parts blank 0 in printed r.number r.engine r.memory ≡ printed_file (joined parts)
+  pub printed_by_parts : let r = run_parts fresh parts blank 0 in printed r.number r.device r.memory ≡ printed_file (joined parts)
   unfolding printed_file
   printed_by_parts =
       let f = joined parts in
       let r = run_on fresh f blank 0 in
       ap text_of (by_parts fresh parts blank 0 bytes fresh_ready.0 fresh_ready.1)
       ∙ by_bool (eqb r.number 0)
-      (λ taken. ap (printed r.number r.engine) (accepted_memory fresh f blank 0 bytes fresh_ready.0 fresh_ready.1 (eqb-true _ 0 taken)))
-      (λ refused. refused_alike r.number r.engine _ _ refused)
+      (λ taken. ap (printed r.number r.device) (accepted_memory fresh f blank 0 bytes fresh_ready.0 fresh_ready.1 (eqb-true _ 0 taken)))
+      (λ refused. refused_alike r.number r.device _ _ refused)
 
 -- The state before the first byte.
 abbrev begun : Taken
@@ -52,9 +52,9 @@ module _ (parts : List (List ℕ)) (rest : List ℕ) (bytes : (i : ℕ) → get_
       ∙ sym (parts_joined 0 begun parts)
 
   left_of : Taken → RunResult
-  left_of t = record { number = (ended t.state t.memory 0).number; engine = (ended t.state t.memory 0).engine; memory = t.memory }
+  left_of t = record { number = (ended t.state t.memory 0).number; device = (ended t.state t.memory 0).device; memory = t.memory }
 
-  pub printed_early : let r = run_parts fresh parts blank 0 in printed r.number r.engine r.memory ≡ printed_file (joined parts ++ rest)
+  pub printed_early : let r = run_parts fresh parts blank 0 in printed r.number r.device r.memory ≡ printed_file (joined parts ++ rest)
   unfolding run_parts left_of
   printed_early =
       let whole : List (List ℕ) = (joined parts ++ rest) ∷ [] in

@@ -2,7 +2,7 @@
 use Rattle.std.specs.Prelude.{cond, ℕ, zero, suc, ◌*◌, eqb, get_or, replicate}
 use mathlib.Core.List.{List, [], ◌∷◌, ◌++◌, flatten}
 use Rattle.output.specs.Output.{word_at}
-use Rattle.rules.specs.declared.Engine.{Engine}
+use Rattle.rules.specs.declared.Device.{Device}
 use Rattle.file_rules.specs.File.{run_file}
 use Rattle.text.specs.Text.{ascii, decimal, hex}
 
@@ -23,7 +23,7 @@ word_lines memory k zero = []
 word_lines memory k (suc n) = word_line (word_at memory (4 * k)) ∷ word_lines memory (suc k) n
 
 -- The counts (words means landed), RIS, then each landed word.
-unfoldable pub report : Engine → List ℕ → List (List ℕ)
+unfoldable pub report : Device → List ℕ → List (List ℕ)
 report d memory =
     let o = d.core.output in
     count_line (ascii "samples ") o.counts.samples ∷
@@ -34,11 +34,11 @@ report d memory =
     word_lines memory 0 o.counts.landed
 
 -- A refusal prints one line. Otherwise the report.
-unfoldable pub lines : ℕ → Engine → List ℕ → List (List ℕ)
+unfoldable pub lines : ℕ → Device → List ℕ → List (List ℕ)
 lines number d memory = cond (eqb number 0) (report d memory) (count_line (ascii "refused ") number ∷ [])
 
 -- All of it: the lines one after the other.
-unfoldable pub printed : ℕ → Engine → List ℕ → List ℕ
+unfoldable pub printed : ℕ → Device → List ℕ → List ℕ
 printed number d memory = flatten (lines number d memory)
 
 -- A file on standard input: its run over memory of 16,384 zero bytes, start 0, printed.
@@ -48,10 +48,10 @@ blank = replicate 16384 0
 unfoldable pub printed_file : List ℕ → List ℕ
 printed_file file =
     let r = run_file file blank 0 in
-    printed r.number r.engine r.memory
+    printed r.number r.device r.memory
 
 -- Line number k, counted from 0, and nothing behind the last one; and what a program writes that asks for n lines by their numbers, from number k on.
-abbrev pub line : ℕ → Engine → List ℕ → ℕ → List ℕ
+abbrev pub line : ℕ → Device → List ℕ → ℕ → List ℕ
 line number d memory k = get_or (lines number d memory) k []
 
 unfoldable pub asked : (ℕ → List ℕ) → ℕ → ℕ → List ℕ

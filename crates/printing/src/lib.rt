@@ -1,5 +1,7 @@
 // What the frame printer prints, line by line: how many lines there are, and each of them by its number, into a lent buffer. The text is a definition from a file's bytes on (specs/Printed); proofs/ has the laws
 // that it is the lines one after the other, and that a file by parts, cut in any way, prints the same.
+#![tactic(auto)]
+
 ghost use Rattle.std.specs.Prelude.{List, [], ◌≡◌, ℕ, ◌≤◌, length, get_or};
 ghost use Rattle.refusals.specs.Table.{outcome as number};
 ghost use Rattle.text.specs.Putting as putting_rules;
@@ -7,7 +9,7 @@ ghost use Rattle.printing.specs.Printed as printed_rules;
 
 use numbers::four;
 use refusals::Outcome;
-use rules::Engine;
+use rules::Device;
 use text::{eight_digits, put, put_decimal, two_digits};
 
 // A name and a number in decimal.
@@ -39,7 +41,7 @@ fn word_line(word: u32, buffer: &mut [u8]) -> usize
 }
 
 // Line number k of an accepted file.
-fn report_line(d: Engine, memory: &[u8], k: usize, buffer: &mut [u8]) -> usize
+fn report_line(d: Device, memory: &[u8], k: usize, buffer: &mut [u8]) -> usize
     ensures { putting_rules.putting result buffer.new ≡ putting_rules.put (get_or (printed_rules.report d memory.now) k []) 0 buffer.old }
 {
     if k == 0 {
@@ -65,7 +67,7 @@ fn report_line(d: Engine, memory: &[u8], k: usize, buffer: &mut [u8]) -> usize
 }
 
 // How many lines there are.
-pub fn line_count(outcome: Outcome, d: Engine) -> usize
+pub fn line_count(outcome: Outcome, d: Device) -> usize
     ensures { (memory : List ℕ) → result ≡ length (printed_rules.lines (number outcome) d memory) }
 {
     let Outcome::Accepted = outcome else {
@@ -75,9 +77,9 @@ pub fn line_count(outcome: Outcome, d: Engine) -> usize
     5 + landed
 }
 
-// Line number k of what is printed for an outcome, an engine and a memory, to the front of the buffer: its length, where the buffer has 32 bytes or more. Behind the last line
+// Line number k of what is printed for an outcome, a device and a memory, to the front of the buffer: its length, where the buffer has 32 bytes or more. Behind the last line
 // there is none.
-pub fn line(outcome: Outcome, d: Engine, memory: &[u8], k: usize, buffer: &mut [u8]) -> usize
+pub fn line(outcome: Outcome, d: Device, memory: &[u8], k: usize, buffer: &mut [u8]) -> usize
     ensures buffer_after { putting_rules.putting result buffer.new ≡ putting_rules.put (printed_rules.line (number outcome) d memory.now k) 0 buffer.old }
     ensures value { 32 ≤ length buffer.old → result ≡ length (printed_rules.line (number outcome) d memory.now k) }
 {

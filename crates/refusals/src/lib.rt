@@ -1,10 +1,12 @@
 // The refusal table: why a call is refused, with the paper's number of each (specs/Table), and the answer of a call that gives no value. How a
 // call's refusal is found, its tests in order and the number of the first that holds, is specs/Refusals.
+#![tactic(auto)]
+
 ghost use Rattle.std.specs.Prelude.{◌≡◌};
 ghost use Rattle.refusals.specs.Table as table;
 
 // Why a call is refused, in the paper's order.
-#[derive(Drop)]
+#[derive(Clone, Copy)]
 pub enum Refusal {
     Malformed,
     NoRegister,
@@ -61,7 +63,7 @@ impl Refusal {
 }
 
 // The answer of a call that gives no value: whether it was accepted.
-#[derive(Drop)]
+#[derive(Clone, Copy)]
 pub enum Outcome {
     Accepted,
     Refused(Refusal),

@@ -1,7 +1,9 @@
 // The registers of the camera interface. Their map and their fields are definitions (specs/); the code for both is the crate `fields`.
+#![tactic(auto)]
+
 
 // The kinds of register.
-#[derive(Drop)]
+#[derive(Clone, Copy)]
 pub enum Register {
     Control,
     Status,
@@ -16,7 +18,7 @@ pub enum Register {
 }
 
 // How a register may be accessed.
-#[derive(Drop)]
+#[derive(Clone, Copy)]
 pub enum Access {
     ReadWrite,
     ReadOnly,
@@ -24,7 +26,7 @@ pub enum Access {
 }
 
 // What stands at an offset.
-#[derive(Drop)]
+#[derive(Clone, Copy)]
 pub enum Found {
     At(Register),
     Nothing,

@@ -26,12 +26,11 @@ use Rattle.rules.specs.declared.Frame.TheVariants.{Closed, Open}
 use Rattle.rules.specs.declared.Registers.{Registers}
 use Rattle.rules.specs.declared.Capture.{Capture}
 use Rattle.rules.specs.declared.Device.{Device}
-use Rattle.rules.specs.State.{engine, capture_of, output_of, fresh_capture, with_cr, with_ris, with_ier, with_cwstrt, with_cwsize, with_registers, with_syncs, with_frame, with_rate, with_partial}
-use Rattle.rules.specs.Device.{in_one, fresh, malformed}
+use Rattle.rules.specs.State.{device, capture_of, output_of, fresh_capture, fresh, with_cr, with_ris, with_ier, with_cwstrt, with_cwsize, with_registers, with_syncs, with_frame, with_rate, with_partial}
 use Rattle.rules.specs.Capture.{pixel_edge}
 use Rattle.rules.specs.Answers.{Changed}
-use Rattle.rules.specs.Effects.{status}
-use Rattle.rules.specs.RegisterCalls.{read, write, interrupt, rearm}
+use Rattle.rules.specs.WellFormed.{malformed}
+use Rattle.rules.specs.RegisterCalls.{status, read, write, interrupt, rearm}
 use Rattle.rules.specs.Run.{RunResult, run, SampleResult, sample}
 use Rattle.rules.proofs.EveryRule.{every_rule}
 
@@ -91,12 +90,12 @@ made c =
     let q = written (record { numbers = p.numbers ++ (r.number ∷ []); device = r.device }) c.after in
     leaves
     q.numbers
-    (words q.device.engine.core.output.counts.landed r.memory)
-    q.device.engine.core.output.held
-    q.device.engine.core.output.counts.discarded
-    q.device.engine.core.capture.registers.cr
-    q.device.engine.core.capture.registers.ris
-    (status q.device.engine)
+    (words q.device.core.output.counts.landed r.memory)
+    q.device.core.output.held
+    q.device.core.output.counts.discarded
+    q.device.core.capture.registers.cr
+    q.device.core.capture.registers.ris
+    (status q.device)
 
 -- The offsets of the registers by name, and trace T.
 abbrev pub CR : ℕ
@@ -380,7 +379,7 @@ told d m the_line = looks d m (by_answer line (interrupt d))
 told d m a_rearming = changes m (rearm d)
 told d m (a_run start ws) = runs (run d m start ws)
 told d m (a_sample start w) = samples_one (sample d m start w)
-told d m the_counts = looks d m (counts_of d.engine.core.output)
+told d m the_counts = looks d m (counts_of d.core.output)
 told d m the_memory = looks d m (holds m)
 
 unfoldable pub told_by : Device → List ℕ → List Entry → List Said
@@ -410,16 +409,12 @@ partial_is count bits s = with_partial (record { count = count; bits = bits }) s
 abbrev pub frame_is : Bool → ℕ → ℕ → Capture → Capture
 frame_is taken lines pixels s = with_frame (Open taken (record { lines = lines; pixels = pixels })) s
 
--- In mode one, of a capture state, and of what rules 1 and 9 change.
-abbrev pub device : Capture → OutputState → Device
-device s x = in_one (engine s x)
-
 -- A fresh device with words, with its capture state changed, with other registers, and with a CR and a rate counter.
 abbrev pub idle : OutputState → Device
 idle x = device fresh_capture x
 
 abbrev pub fresh_but : (Capture → Capture) → Device
-fresh_but change = device (change fresh_capture) (output_of fresh.engine)
+fresh_but change = device (change fresh_capture) (output_of fresh)
 
 abbrev pub registered : (Registers → Registers) → Device
 registered change = fresh_but (λ s. with_registers (change s.registers) s)
@@ -429,12 +424,12 @@ rated cr n = fresh_but (λ s. with_rate n (with_registers (with_cr cr s.register
 
 -- An enabled one with words; one after 8 samples in a taken frame, line 1, pixel 3, with its capture state changed.
 abbrev pub enabled_with : OutputState → Device
-enabled_with x = device (capture_of (write fresh CR 0x48E1).device.engine) x
+enabled_with x = device (capture_of (write fresh CR 0x48E1).device) x
 
 abbrev pub capturing : ℕ → (Capture → Capture) → Device
 capturing cr change =
     let d = (run (write fresh CR cr).device [] 0 (edges (blank ∷ 1 ∷ 2 ∷ 3 ∷ []))).device in
-    device (change (capture_of d.engine)) (output_of d.engine)
+    device (change (capture_of d)) (output_of d)
 
 -- What every register that holds a value of its own reads as.
 abbrev pub registers_are : ℕ → ℕ → ℕ → ℕ → ℕ → ℕ → ℕ → List Entry
@@ -814,37 +809,37 @@ judged =
 
 -- What only the state shows. Rule 5 with CM 1: FCRC 1, and the rate counter once a frame has started.
 unfoldable pub snapshot_rate : ℕ
-snapshot_rate = (run (write fresh CR 0x49E3).device [] 0 (edges (blank ∷ 1 ∷ []))).device.engine.core.capture.rate
+snapshot_rate = (run (write fresh CR 0x49E3).device [] 0 (edges (blank ∷ 1 ∷ []))).device.core.capture.rate
 
 -- And it stays what it was, here 1. No calls from reset lead to this device.
 unfoldable pub kept_rate : ℕ
-kept_rate = (run (rated 0x49E3 1) [] 0 (edges (blank ∷ 1 ∷ []))).device.engine.core.capture.rate
+kept_rate = (run (rated 0x49E3 1) [] 0 (edges (blank ∷ 1 ∷ []))).device.core.capture.rate
 
 -- Rule 2: only a sample that goes on leaves whether each sync blanks; disabling leaves it, and so does a write of CR with ENABLE 0.
 unfoldable pub syncs_while_disabled : Syncs
 syncs_while_disabled =
     let d = (write (run (write fresh CR 0x48E1).device [] 0 (edge blank)).device CR 0x08E0).device in
-    (run (write d CR 0x00E0).device [] 0 (edge 1)).device.engine.core.capture.syncs
+    (run (write d CR 0x00E0).device [] 0 (edge 1)).device.core.capture.syncs
 
 -- Rule 6: a line that has begun without a pixel runs on where HSYNC did not blank. No calls from reset lead to this device.
 unfoldable pub same_line : Frame
-same_line = (run (capturing 0x48E1 (λ s. partial_is 0 0 (frame_is true 1 0 s))) [] 0 (edge 4)).device.engine.core.capture.frame
+same_line = (run (capturing 0x48E1 (λ s. partial_is 0 0 (frame_is true 1 0 s))) [] 0 (edge 4)).device.core.capture.frame
 
 -- Rule 6 alone: an edge carries a pixel where neither sync blanks; here in line 1 after pixel 3, by whether HSYNC and VSYNC blank. By rule 4 no frame is open where VSYNC does.
 unfoldable pub frame_after : Bool → Bool → Frame
-frame_after hsync vsync = (pixel_edge (capture_of (capturing 0x48E1 (λ s. s)).engine) (record { hsync = hsync; vsync = vsync }) 4).state.frame
+frame_after hsync vsync = (pixel_edge (capture_of (capturing 0x48E1 (λ s. s))) (record { hsync = hsync; vsync = vsync }) 4).state.frame
 
 -- Rule 6: kept are lines and pixels of an untaken frame too.
 unfoldable pub untaken_frame : Frame
-untaken_frame = (run (write fresh CR 0x49E1).device [] 0 (edges (blank ∷ 1 ∷ blank ∷ 2 ∷ 3 ∷ []))).device.engine.core.capture.frame
+untaken_frame = (run (write fresh CR 0x49E1).device [] 0 (edges (blank ∷ 1 ∷ blank ∷ 2 ∷ 3 ∷ []))).device.core.capture.frame
 
 -- Rule 6: lines and pixels are 0 when a frame starts, here at an edge without a pixel.
 unfoldable pub frame_started : Frame
-frame_started = (run (write fresh CR 0x48E3).device [] 0 (edges (blank ∷ line_gap ∷ []))).device.engine.core.capture.frame
+frame_started = (run (write fresh CR 0x48E3).device [] 0 (edges (blank ∷ line_gap ∷ []))).device.core.capture.frame
 
 -- "Reset": the syncs are remembered as not blanking.
 unfoldable pub syncs_at_reset : Syncs
-syncs_at_reset = fresh.engine.core.capture.syncs
+syncs_at_reset = fresh.core.capture.syncs
 
 -- The statement: every case leaves what its row says, every call tells what stands beside it, every device is judged so, and the state is as said.
 abbrev pub cases : List Case

@@ -23,13 +23,13 @@ use Rattle.rules.specs.declared.Frame.{Frame}
 use Rattle.rules.specs.declared.Frame.TheVariants.{Closed, Open}
 use Rattle.rules.specs.declared.Capture.{Capture}
 use Rattle.rules.specs.declared.Device.{Device}
-use Rattle.rules.specs.State.{capture_of, with_cr, with_escr, with_esur, with_syncs, with_rate, with_waiting}
-use Rattle.rules.specs.Device.{fresh_of, fresh, malformed}
+use Rattle.rules.specs.State.{device, capture_of, fresh_of, fresh, with_cr, with_escr, with_esur, with_syncs, with_rate, with_waiting}
 use Rattle.rules.specs.RegisterCalls.{write}
+use Rattle.rules.specs.WellFormed.{malformed}
 use Rattle.output.specs.Output.{Packed, nothing, completed, lost}
 use Rattle.rules.specs.Run.{run}
 use Rattle.rules.proofs.EveryRule.{every_rule}
-use Rattle.rules.proofs.BenchSheet.{◌≔◌, CR, SR, RIS, IER, ICR, CWSTRT, CWSIZE, edge, edges, blank, Entry, ◌▸◌, a_write, a_read, a_run, a_sample, a_rearming, the_line, the_counts, the_memory, done, refused, reads, line, sampled, counts, holds, all_refused, Judged, well, ill, Log, log, told, told_by, played, words_are, no_slots, partial_is, frame_is, registered, device}
+use Rattle.rules.proofs.BenchSheet.{◌≔◌, CR, SR, RIS, IER, ICR, CWSTRT, CWSIZE, edge, edges, blank, Entry, ◌▸◌, a_write, a_read, a_run, a_sample, a_rearming, the_line, the_counts, the_memory, done, refused, reads, line, sampled, counts, holds, all_refused, Judged, well, ill, Log, log, told, told_by, played, words_are, no_slots, partial_is, frame_is, registered}
 use Rattle.rules.proofs.RequestSheet.{all_accepted, lands_at}
 
 abbrev pub ESCR : ℕ
@@ -85,7 +85,7 @@ byte x packed = a_sample 0 x ▸ sampled none nothing ∷ a_sample 0 (x + 0x1000
 
 -- A device with a CR after 8 samples, made by hand.
 abbrev pub coded_with : ℕ → (Capture → Capture) → Device
-coded_with cr change = device (change (capture_of (write fresh CR cr).device.engine)) (words_are no_slots 0 0 8 0 0 0)
+coded_with cr change = device (change (capture_of (write fresh CR cr).device)) (words_are no_slots 0 0 8 0 0 0)
 
 -- What a code means.
 unfoldable pub code_meanings : List Log
@@ -581,6 +581,6 @@ pub codes_sheet : (map played code_meanings ≡ map (λ l. map (λ e. e.said) l.
     × (map played releases ≡ map (λ l. map (λ e. e.said) l.entries) releases)
     × (map played code_registers ≡ map (λ l. map (λ e. e.said) l.entries) code_registers)
     × (map (λ j. malformed j.device) code_judged ≡ map (λ j. j.malformed) code_judged)
-    × (map (λ t. capture_of t.device.engine) states ≡ map (λ t. t.capture) states)
+    × (map (λ t. capture_of t.device) states ≡ map (λ t. t.capture) states)
 unfolding told told_by played code_meanings coded_frames code_errors only_frame_starts releases code_registers code_judged after_bytes states every_rule
 codes_sheet = (refl, refl, refl, refl, refl, refl, refl, refl)

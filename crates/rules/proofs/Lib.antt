@@ -1,8 +1,6 @@
 pub mod EveryRule
 pub mod WellFormed
-pub mod DeviceFacts
 pub mod BenchSheet
 pub mod CropWindow
 pub mod RequestSheet
 pub mod CodesSheet
-pub mod ModeSheet

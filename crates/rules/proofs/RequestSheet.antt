@@ -16,12 +16,12 @@ use Rattle.rules.specs.declared.Frame.{Frame}
 use Rattle.rules.specs.declared.Frame.TheVariants.{Closed, Open}
 use Rattle.rules.specs.declared.Capture.{Capture}
 use Rattle.rules.specs.declared.Device.{Device}
-use Rattle.rules.specs.State.{capture_of, with_cr}
-use Rattle.rules.specs.Device.{fresh_of, fresh, malformed}
+use Rattle.rules.specs.State.{device, capture_of, fresh_of, fresh, with_cr}
 use Rattle.rules.specs.RegisterCalls.{write, made}
+use Rattle.rules.specs.WellFormed.{malformed}
 use Rattle.rules.specs.Run.{run}
 use Rattle.rules.proofs.EveryRule.{every_rule}
-use Rattle.rules.proofs.BenchSheet.{◌≔◌, CR, SR, RIS, ICR, CWSTRT, CWSIZE, edge, granted, edges, blank, line_gap, frame_gap, Entry, ◌▸◌, a_write, a_read, a_run, a_sample, the_counts, the_memory, done, refused, reads, sampled, counts, holds, all_refused, Judged, well, ill, Log, log, told, told_by, played, partial_is, frame_is, registered, capturing, device}
+use Rattle.rules.proofs.BenchSheet.{◌≔◌, CR, SR, RIS, ICR, CWSTRT, CWSIZE, edge, granted, edges, blank, line_gap, frame_gap, Entry, ◌▸◌, a_write, a_read, a_run, a_sample, the_counts, the_memory, done, refused, reads, sampled, counts, holds, all_refused, Judged, well, ill, Log, log, told, told_by, played, partial_is, frame_is, registered, capturing}
 
 -- W1. A fresh device with a window and a CR, and samples; RIS after some samples.
 abbrev pub cropped : ℕ → ℕ → ℕ → List Entry → Log
@@ -112,7 +112,7 @@ early_frame =
 
 -- The capture state at the early moment: FRAME and LINE have risen; the frame is open, the partial word there, CAPTURE 1 and the rate counter as it was.
 unfoldable pub at_the_early_moment : Capture
-at_the_early_moment = capture_of (run (write fresh CR 0x49E5).device [] 0 (edges (blank ∷ 5 ∷ 6 ∷ line_gap ∷ []))).device.engine
+at_the_early_moment = capture_of (run (write fresh CR 0x49E5).device [] 0 (edges (blank ∷ 5 ∷ 6 ∷ line_gap ∷ []))).device
 
 -- W9. So many pixels, 1, 2 and so on; a device of a depth, written and run up to them, after one blank edge.
 unfoldable pub pixels_up : ℕ → ℕ → List ℕ
@@ -162,7 +162,7 @@ depths =
 -- "A depth outside 1 to 32 is malformed"; unused slots are all from the held ones to the last, also beyond the depth.
 abbrev pub enabled_of : ℕ → List ℕ → ℕ → Device
 enabled_of depth slots held =
-    device (capture_of (write fresh CR 0x48E1).device.engine)
+    device (capture_of (write fresh CR 0x48E1).device)
     (record {
       output = record { held = held; place = 0; depth = depth; counts = record { samples = 99; completed = held; landed = 0; discarded = 0 } };
       slots = slots ++ replicate (slot_count - length slots) 0;
@@ -184,7 +184,7 @@ depth_judged =
 
 -- "Depth 0 or above 32 is 18, the first check where a device is made": the number and the depth that is left.
 unfoldable pub made_of : ℕ → List ℕ
-made_of depth = (made depth).number ∷ (made depth).device.engine.core.output.depth ∷ []
+made_of depth = (made depth).number ∷ (made depth).device.core.output.depth ∷ []
 
 -- W4. CR values that are accepted one after the other, and read back.
 abbrev pub all_accepted : List ℕ → List Entry
@@ -428,15 +428,15 @@ compressed =
 
 -- Lines and pixels count as before: two bytes, a gap, a byte.
 unfoldable pub in_a_compressed_frame : Frame
-in_a_compressed_frame = (run (write fresh CR 0x40E9).device [] 0 (edges (blank ∷ 5 ∷ 6 ∷ line_gap ∷ 7 ∷ []))).device.engine.core.capture.frame
+in_a_compressed_frame = (run (write fresh CR 0x40E9).device [] 0 (edges (blank ∷ 5 ∷ 6 ∷ line_gap ∷ 7 ∷ []))).device.core.capture.frame
 
 -- The capture state after a frame's end with a padded word: FRAME has risen, the frame is closed, no byte is left, CAPTURE is 1 and the rate counter as it was.
 unfoldable pub at_a_padded_end : Capture
-at_a_padded_end = capture_of (run (write fresh CR 0x41E9).device [] 0 (edges (blank ∷ 5 ∷ line_gap ∷ 6 ∷ blank ∷ []))).device.engine
+at_a_padded_end = capture_of (run (write fresh CR 0x41E9).device [] 0 (edges (blank ∷ 5 ∷ line_gap ∷ 6 ∷ blank ∷ []))).device
 
 -- And after one that overran, of a snapshot at depth 1: OVR for FRAME, and CAPTURE 0. VSYNC alone blanks.
 unfoldable pub at_a_lost_end : Capture
-at_a_lost_end = capture_of (run (write (fresh_of 1) CR 0x40EB).device [] 0 (edge blank ++ pixels_up 5 1 ++ edge frame_gap)).device.engine
+at_a_lost_end = capture_of (run (write (fresh_of 1) CR 0x40EB).device [] 0 (edge blank ++ pixels_up 5 1 ++ edge frame_gap)).device
 
 -- "Register contents that refusals 4 and 5 exclude", with JPEG 1; the partial word of a compressed frame is one of 8 bits.
 unfoldable pub jpeg_judged : List Judged

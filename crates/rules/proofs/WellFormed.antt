@@ -1,4 +1,4 @@
--- An engine that is not malformed, as facts, and the way back. The facts are in two parts, as the rules are: the capture state, given a
+-- A device that is not malformed, as facts, and the way back. The facts are in two parts, as the rules are: the capture state, given a
 -- bound on its lines and pixels, and FIFO, place and counts. Assumes nothing.
 use mathlib.Core.Bool.{Bool, true, false, not}
 use mathlib.Core.List.{List, [], ◌∷◌}
@@ -10,14 +10,14 @@ use lib.ListN.{drop}
 use borrow.Author.Tests.{ltb-true, ltb-false, leb-false, eqb-true, le-ltb, lt-leb, eq-eqb, lt-ltb, not-true, not-false}
 use Rattle.registers.specs.Control.{edm, enable}
 use Rattle.rules.specs.declared.Capture.{Capture}
-use Rattle.rules.specs.declared.Engine.{Engine}
+use Rattle.rules.specs.declared.Device.{Device}
 use Rattle.packing.specs.Packing.{per_word}
 use Rattle.output.specs.WellFormed.{all_zero, bad_fifo, bad_place, bad_counts}
 use Rattle.output.proofs.WellFormed.{OutputOk}
 use Rattle.rules.specs.State.{output_of, is_open, is_taken}
 use Rattle.rules.specs.Capture.{rate_period}
 use Rattle.bits.specs.Tests.{one_holds}
-use Rattle.rules.specs.WellFormed.{lines, pixels, unused_bits, full_partial, excluded, bad_flags, active_disabled, partial_outside, bad_rate, above_samples, bad_engine, clauses}
+use Rattle.rules.specs.WellFormed.{lines, pixels, unused_bits, full_partial, excluded, bad_flags, active_disabled, partial_outside, bad_rate, above_samples, malformed, clauses}
 use Rattle.bits.proofs.Booleans.{or_false, both_false, and_false, imp_and_false, not_is_false, not_is_true, None, none, none_any}
 
 -- The capture state's share, with lines and pixels at most n.
@@ -34,22 +34,22 @@ pub record CaptureOk (n : ℕ) (s : Capture) : Type 0 where
   pub pixels : pixels s.frame ≤ n
 
 -- With the share of FIFO, place and counts.
-pub record WellFormed (d : Engine) : Type 0 where
+pub record WellFormed (d : Device) : Type 0 where
   pub capture : CaptureOk d.core.output.counts.samples d.core.capture
   pub output : OutputOk (enable d.core.capture.registers.cr) (output_of d)
 
 -- What must not be while ENABLE is 0.
-idles : Engine → List Bool
+idles : Device → List Bool
 idles d = is_open d.core.capture.frame ∷ ltb 0 d.core.output.held ∷ ltb 0 d.core.capture.partial.count ∷ ltb 0 d.core.capture.rate ∷ []
 
-above : Engine → List Bool
+above : Device → List Bool
 above d =
     ltb d.core.output.counts.samples (lines d.core.capture.frame) ∷
     ltb d.core.output.counts.samples (pixels d.core.capture.frame) ∷
     ltb d.core.output.counts.samples d.core.output.counts.completed ∷
     []
 
-idle : (d : Engine) → active_disabled d ≡ false → enable d.core.capture.registers.cr ≡ false → None (idles d)
+idle : (d : Device) → active_disabled d ≡ false → enable d.core.capture.registers.cr ≡ false → None (idles d)
 unfolding active_disabled idles
 idle d e off =
     none (idles d) (and_false (not (enable d.core.capture.registers.cr)) (one_holds (idles d)) e (not_is_true _ off))
@@ -57,8 +57,8 @@ idle d e off =
 is_zero : (n : ℕ) → ltb 0 n ≡ false → n ≡ 0
 is_zero n e = let h : n ≤ 0 = ltb-false 0 n e in omega arith
 
-pub facts : (d : Engine) → bad_engine d ≡ false → WellFormed d
-unfolding bad_engine bad_fifo full_partial bad_flags partial_outside bad_rate above_samples bad_place bad_counts idles above
+pub facts : (d : Device) → malformed d ≡ false → WellFormed d
+unfolding malformed bad_fifo full_partial bad_flags partial_outside bad_rate above_samples bad_place bad_counts idles above
 facts d e =
     let n = none (clauses d) e in
     let fifo = or_false (ltb d.core.output.depth d.core.output.held) (not (all_zero (drop d.core.output.held d.slots))) n.0 in
@@ -94,8 +94,8 @@ facts d e =
 zero_test : (n : ℕ) → n ≡ 0 → ltb 0 n ≡ false
 zero_test n h = le-ltb 0 n (omega arith)
 
-pub well_formed : (d : Engine) → WellFormed d → bad_engine d ≡ false
-unfolding bad_engine bad_fifo full_partial bad_flags active_disabled partial_outside bad_rate above_samples bad_place bad_counts idles above
+pub well_formed : (d : Device) → WellFormed d → malformed d ≡ false
+unfolding malformed bad_fifo full_partial bad_flags active_disabled partial_outside bad_rate above_samples bad_place bad_counts idles above
 well_formed d w =
     let c = w.capture in
     let q = w.output in

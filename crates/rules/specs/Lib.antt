@@ -4,10 +4,7 @@ pub mod Capture
 pub mod Codes
 pub mod Sample
 pub mod Unpadded
-pub mod Step
-pub mod Effects
-pub mod WellFormed
-pub mod Device
 pub mod Answers
+pub mod WellFormed
 pub mod RegisterCalls
 pub mod Run

@@ -1,7 +1,7 @@
--- The engine's state: reset (document 01, "Registers"), and a state with one of its parts changed.
+-- Reset (document 01, "Registers"), and a state with one of its parts changed.
 use Rattle.std.specs.Prelude.{Bool, true, false, ℕ}
 use Rattle.bits.specs.Bits.{raised, lowered}
-use Rattle.output.specs.Output.{OutputState, fresh_output}
+use Rattle.output.specs.Output.{usual_depth, OutputState, fresh_output}
 use Rattle.codes.specs.declared.Waiting.{Waiting}
 use Rattle.codes.specs.declared.Waiting.TheVariants.{Zero}
 use Rattle.rules.specs.declared.Registers.{Registers}
@@ -11,7 +11,7 @@ use Rattle.rules.specs.declared.Frame.{Frame}
 use Rattle.rules.specs.declared.Frame.TheVariants.{Closed, Open}
 use Rattle.rules.specs.declared.Partial.{Partial}
 use Rattle.rules.specs.declared.Capture.{Capture}
-use Rattle.rules.specs.declared.Engine.{Engine}
+use Rattle.rules.specs.declared.Device.{Device}
 
 -- Syncs that are both not blanking, and no partial word.
 abbrev pub not_blanking : Syncs
@@ -20,15 +20,15 @@ not_blanking = record { hsync = false; vsync = false }
 abbrev pub no_partial : Partial
 no_partial = record { count = 0; bits = 0 }
 
--- An engine of a capture state, and of what rules 1 and 9 change; and these of an engine.
-abbrev pub engine : Capture → OutputState → Engine
-engine s x = record { core = record { capture = s; output = x.output }; slots = x.slots }
+-- A device of a capture state, and of what rules 1 and 9 change; and these of a device.
+abbrev pub device : Capture → OutputState → Device
+device s x = record { core = record { capture = s; output = x.output }; slots = x.slots }
 
-abbrev pub capture_of : Engine → Capture
-capture_of e = e.core.capture
+abbrev pub capture_of : Device → Capture
+capture_of d = d.core.capture
 
-abbrev pub output_of : Engine → OutputState
-output_of e = record { output = e.core.output; slots = e.slots }
+abbrev pub output_of : Device → OutputState
+output_of d = record { output = d.core.output; slots = d.slots }
 
 -- Reset: all registers 0, pins remembered as 0, syncs as not blanking, no frame open, no byte waiting (W6), all counts and places 0.
 unfoldable pub fresh_capture : Capture
@@ -43,9 +43,12 @@ fresh_capture =
       waiting = Zero;
     }
 
--- At reset with a depth (W9).
-unfoldable pub fresh_engine : ℕ → Engine
-fresh_engine depth = engine fresh_capture (fresh_output depth)
+-- A device made with a depth (W9), and one where none is named.
+unfoldable pub fresh_of : ℕ → Device
+fresh_of depth = device fresh_capture (fresh_output depth)
+
+abbrev pub fresh : Device
+fresh = fresh_of usual_depth
 
 -- Of a frame: whether it is open, and whether it is open and taken.
 abbrev pub is_open : Frame → Bool

@@ -1,5 +1,5 @@
--- Malformed (document 01, "Malformed means one of"), the clauses about the engine in the paper's order; those of FIFO, place and counts alone are in the crate `output`,
--- and what W2 adds is in `Device`. The list is closed.
+-- Malformed devices (document 01, "Malformed means one of"), clause by clause in the paper's order; those of FIFO, place and counts alone are in the
+-- crate `output`. The list is closed.
 use Rattle.std.specs.Prelude.{Bool, not, ◌&&◌, ◌||◌, List, [], ◌∷◌, ℕ, ◌*◌, ◌/◌, ◌^◌, eqb, ltb, leb}
 use Rattle.bits.specs.Tests.{one_holds}
 use Rattle.registers.specs.Control.{unsupported, edm, enable}
@@ -11,7 +11,7 @@ use Rattle.rules.specs.declared.Registers.{Registers}
 use Rattle.rules.specs.declared.Frame.{Frame}
 use Rattle.rules.specs.declared.Frame.TheVariants.{Closed, Open}
 use Rattle.rules.specs.declared.Capture.{Capture}
-use Rattle.rules.specs.declared.Engine.{Engine}
+use Rattle.rules.specs.declared.Device.{Device}
 use Rattle.rules.specs.State.{output_of, is_open, is_taken}
 use Rattle.rules.specs.Capture.{rate_period}
 
@@ -48,10 +48,10 @@ unfoldable pub bad_flags : Registers → Bool
 bad_flags r = ltb 31 r.ris || ltb 31 r.ier
 
 -- A frame open, a held word, a partial one or a rate counter above 0 while ENABLE is 0.
-unfoldable pub active_disabled : Engine → Bool
-active_disabled e =
-    not (enable e.core.capture.registers.cr) &&
-    one_holds (is_open e.core.capture.frame ∷ ltb 0 e.core.output.held ∷ ltb 0 e.core.capture.partial.count ∷ ltb 0 e.core.capture.rate ∷ [])
+unfoldable pub active_disabled : Device → Bool
+active_disabled d =
+    not (enable d.core.capture.registers.cr) &&
+    one_holds (is_open d.core.capture.frame ∷ ltb 0 d.core.output.held ∷ ltb 0 d.core.capture.partial.count ∷ ltb 0 d.core.capture.rate ∷ [])
 
 -- A partial one outside a taken open frame.
 unfoldable pub partial_outside : Capture → Bool
@@ -62,31 +62,31 @@ unfoldable pub bad_rate : Capture → Bool
 bad_rate s = leb (rate_period s.registers.cr) s.rate
 
 -- Line, column or completed above samples.
-unfoldable pub above_samples : Engine → Bool
-above_samples e =
+unfoldable pub above_samples : Device → Bool
+above_samples d =
     one_holds
-    (ltb e.core.output.counts.samples (lines e.core.capture.frame) ∷
-    ltb e.core.output.counts.samples (pixels e.core.capture.frame) ∷
-    ltb e.core.output.counts.samples e.core.output.counts.completed ∷
+    (ltb d.core.output.counts.samples (lines d.core.capture.frame) ∷
+    ltb d.core.output.counts.samples (pixels d.core.capture.frame) ∷
+    ltb d.core.output.counts.samples d.core.output.counts.completed ∷
     [])
 
 -- The clauses in the paper's order, and that of W9.
-abbrev pub clauses : Engine → List Bool
-clauses e =
-    bad_fifo (output_of e) ∷
-    unused_bits e.core.capture ∷
-    full_partial e.core.capture ∷
-    excluded e.core.capture.registers ∷
-    bad_flags e.core.capture.registers ∷
-    active_disabled e ∷
-    partial_outside e.core.capture ∷
-    bad_rate e.core.capture ∷
-    above_samples e ∷
-    bad_place e.core.output ∷
-    bad_counts e.core.output ∷
-    bad_depth e.core.output.depth ∷
+abbrev pub clauses : Device → List Bool
+clauses d =
+    bad_fifo (output_of d) ∷
+    unused_bits d.core.capture ∷
+    full_partial d.core.capture ∷
+    excluded d.core.capture.registers ∷
+    bad_flags d.core.capture.registers ∷
+    active_disabled d ∷
+    partial_outside d.core.capture ∷
+    bad_rate d.core.capture ∷
+    above_samples d ∷
+    bad_place d.core.output ∷
+    bad_counts d.core.output ∷
+    bad_depth d.core.output.depth ∷
     []
 
--- One of them holds.
-unfoldable pub bad_engine : Engine → Bool
-bad_engine e = one_holds (clauses e)
+-- Malformed means one of them: refusal 1.
+unfoldable pub malformed : Device → Bool
+malformed d = one_holds (clauses d)

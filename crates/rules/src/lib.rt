@@ -1,12 +1,13 @@
 // The state of the camera interface, as plain data. What the calls make of it is defined in specs/, in the paper's order and words;
 // proofs/ has the laws of those definitions and the bench sheet's cases. There is no code here: the functions stand in the crates above.
 // The order of the fields means nothing to the rules; it decides what the compiler keeps in registers (docs/SPEED.md).
-use buffers::Turns;
+#![tactic(auto)]
+
 use codes::Waiting;
 use output::{Output, SLOTS};
 
 // The registers that hold a value of their own. SR, MIS and ICR have none.
-#[derive(Drop)]
+#[derive(Clone, Copy)]
 pub struct Registers {
     pub cr: u32,
     pub ris: u32,
@@ -18,7 +19,7 @@ pub struct Registers {
 }
 
 // The pins' levels at the last sample.
-#[derive(Drop)]
+#[derive(Clone, Copy)]
 pub struct Pins {
     pub hsync: bool,
     pub vsync: bool,
@@ -26,7 +27,7 @@ pub struct Pins {
 }
 
 // Whether each sync blanks.
-#[derive(Drop)]
+#[derive(Clone, Copy)]
 pub struct Syncs {
     pub hsync: bool,
     pub vsync: bool,
@@ -34,21 +35,21 @@ pub struct Syncs {
 
 // The place in an open frame: the lines begun in it, and the pixels of the last line, whose column is one less. With ESS 1 the bytes that wait are counted too while the
 // line is open (W6): the last pixel's column is then less by these.
-#[derive(Drop)]
+#[derive(Clone, Copy)]
 pub struct Scan {
     pub lines: u32,
     pub pixels: u32,
 }
 
 // Closed, or open: whether the frame is one of those taken, and the place in it.
-#[derive(Drop)]
+#[derive(Clone, Copy)]
 pub enum Frame {
     Closed,
     Open(bool, Scan),
 }
 
 // The partial word: how many data it has, and their bits. Both are 0 where there is none.
-#[derive(Drop)]
+#[derive(Clone, Copy)]
 pub struct Partial {
     pub count: u32,
     pub bits: u32,
@@ -56,7 +57,7 @@ pub struct Partial {
 
 // What the rules 2 to 8 read and change. `syncs` is whether each sync blanked at the last working edge, with ESS 1 by the codes (W6); `rate` is the rate counter; `waiting`
 // is how many bytes wait that begin like a code (W6).
-#[derive(Drop)]
+#[derive(Clone, Copy)]
 pub struct Capture {
     pub registers: Registers,
     pub pins: Pins,
@@ -68,29 +69,15 @@ pub struct Capture {
 }
 
 // The state but for the FIFO's slots: what the capture rules change, and what rules 1 and 9 change.
-#[derive(Drop)]
+#[derive(Clone, Copy)]
 pub struct Core {
     pub capture: Capture,
     pub output: Output,
 }
 
-// The capture engine: what the nine rules of a sample read and change, whatever buffers its words go to. The held words stand in the first slots, oldest first.
-#[derive(Drop)]
-pub struct Engine {
+// The device. The held words stand in the first slots, oldest first.
+#[derive(Clone, Copy)]
+pub struct Device {
     pub core: Core,
     pub slots: [u32; SLOTS],
-}
-
-// One frame buffer, or two in turn with what is kept for them (W2).
-#[derive(Drop)]
-pub enum Mode {
-    One,
-    Two(Turns),
-}
-
-// The device: an engine and its buffer mode.
-#[derive(Drop)]
-pub struct Device {
-    pub engine: Engine,
-    pub mode: Mode,
 }

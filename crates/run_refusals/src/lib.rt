@@ -1,4 +1,6 @@
 // The refusals of a run of some samples, or of one, of any module that takes them. Each function answers for every input.
+#![tactic(auto)]
+
 ghost use Rattle.std.specs.Prelude.{◌≡◌, ◌+◌, ltb, length};
 ghost use Rattle.refusals.specs.Table.{outcome};
 ghost use Rattle.run_refusals.specs.RunRefusals.{refusal_of};

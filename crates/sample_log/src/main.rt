@@ -1,16 +1,19 @@
-// Trace T of the bench sheet, sample by sample: one device is held in `log`, in mode one, and lent for each sample. After each call
-// its answer and what its engine holds are printed, and compared with the stored output.
+// Trace T of the bench sheet, sample by sample: one board is held in `log`, in mode one, and lent for each sample. After each call
+// its answer and what its device holds are printed, and compared with the stored output.
+#![tactic(auto)]
+
 ghost use Rattle.std.specs.Prelude.{◌≡◌, ◌<◌, get_or};
 ghost use Rattle.rules.specs.RegisterCalls as register_rules;
 ghost use Rattle.rules.specs.State as state;
 ghost use Rattle.sample_log.specs.Samples.{trace_t, samples, left, sample_left, left_in_one};
 
-use engine::{Reading, Reply};
+use board_rules::Board;
+use device::{Reading, Reply};
 use libc::STDOUT_FILENO;
 use output::{Landing, Packing, SLOTS};
 use refusals::Outcome;
 use registers::Register;
-use rules::{Device, Partial};
+use rules::Partial;
 
 fn text(t: &[u8]) {
     io::write_all(STDOUT_FILENO, t);
@@ -27,9 +30,9 @@ fn count(name: &[u8], n: u32) {
 }
 
 // A name and what the register at an offset reads as.
-fn register(name: &[u8], b: Device, offset: u32, digits: usize) {
+fn register(name: &[u8], b: Board, offset: u32, digits: usize) {
     text(name);
-    let reading = device::read(b, offset);
+    let reading = board::read(b, offset);
     match reading {
         Reading::Value(value) => hex(value, digits),
         Reading::Refused(refusal) => count(b"refused ", refusal.number()),
@@ -57,8 +60,8 @@ fn partial(p: Partial) {
     word(0 < p.count, p.bits);
 }
 
-// What the device's engine holds: the registers on a line; the held words, the partial one, the place and the counts on another.
-fn state(b: Device) {
+// What the board's device holds: the registers on a line; the held words, the partial one, the place and the counts on another.
+fn state(b: Board) {
     register(b"  CR ", b, Register::CR, 4);
     register(b", SR ", b, Register::SR, 1);
     register(b", RIS ", b, Register::RIS, 2);
@@ -67,10 +70,10 @@ fn state(b: Device) {
     register(b", CWSTRT ", b, Register::CWSTRT, 8);
     register(b", CWSIZE ", b, Register::CWSIZE, 8);
     text(b"\n");
-    let output = b.engine.core.output;
-    let slots = b.engine.slots;
+    let output = b.device.core.output;
+    let slots = b.device.slots;
     held(output.held, slots);
-    partial(b.engine.core.capture.partial);
+    partial(b.device.core.capture.partial);
     count(b", place ", output.place);
     count(b", samples ", output.counts.samples);
     count(b", completed ", output.counts.completed);
@@ -79,8 +82,8 @@ fn state(b: Device) {
     text(b"\n");
 }
 
-// The answer of the write of CR, and the device after it.
-fn written(cr: u32, outcome: Outcome, b: Device) {
+// The answer of the write of CR, and the board after it.
+fn written(cr: u32, outcome: Outcome, b: Board) {
     text(b"write 00 ");
     hex(cr, 4);
     match outcome {
@@ -112,8 +115,8 @@ fn packing(p: Packing) {
     }
 }
 
-// A sample's two answers, and the device after it.
-fn sampled(w: u32, reply: Reply, b: Device) {
+// A sample's two answers, and the board after it.
+fn sampled(w: u32, reply: Reply, b: Board) {
     text(b"sample ");
     hex(w, 6);
     match reply {
@@ -138,8 +141,8 @@ fn trace_t(i: usize) -> u32
     t[i]
 }
 
-// One sample: the device is lent for it, what it answered and what its engine then holds are printed, and the device is handed back.
-fn turn(mut b: Device, memory: &mut [u8], w: u32) -> Device
+// One sample: the board is lent for it, what it answered and what its device then holds are printed, and the board is handed back.
+fn turn(mut b: Board, memory: &mut [u8], w: u32) -> Board
     ensures { left result memory.new ≡ sample_left b memory.old w }
 {
     let reply = lent::sample(&mut b, memory, 0, w);
@@ -147,13 +150,13 @@ fn turn(mut b: Device, memory: &mut [u8], w: u32) -> Device
     b
 }
 
-// A write of CR and trace T. The one device is held here, and lent for each sample. It stays in mode one; its engine and the memory after them are the rules' own.
-fn log(cr: u32, memory: &mut [u8]) -> Device
-    ensures { left result memory.new ≡ left_in_one (samples (register_rules.write state.fresh 0x00 cr).engine memory.old trace_t) }
+// A write of CR and trace T. The one board is held here, and lent for each sample. It stays in mode one; its device and the memory after them are the rules' own.
+fn log(cr: u32, memory: &mut [u8]) -> Board
+    ensures { left result memory.new ≡ left_in_one (samples (register_rules.write state.fresh 0x00 cr).device memory.old trace_t) }
 {
-    let after = device::write(device::fresh(), Register::CR, cr);
+    let after = board::write(board::fresh(), Register::CR, cr);
     let outcome = after.outcome;
-    let mut b = after.device;
+    let mut b = after.board;
     written(cr, outcome, b);
     let mut i = 0;
     while i < 8 {

@@ -1,4 +1,6 @@
 // A sample of the pins: the fields of its 32-bit word; refusal 7, a bit above them; and samples at which VSYNC keeps its level. Each function answers for every number.
+#![tactic(auto)]
+
 ghost use Rattle.std.specs.Bool.{beq};
 ghost use Rattle.std.specs.Prelude.{◌≡◌, ◌+◌, drop};
 ghost use Rattle.samples.specs.Samples as samples;

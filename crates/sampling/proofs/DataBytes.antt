@@ -27,10 +27,10 @@ pub rest_data : (samples : List ℕ) (i : ℕ) → i < length samples → NoneBe
 unfolding NoneBegins
 rest_data samples i inside all = rw add-one (rw (drop-cons samples i 0 inside) at all).1
 
-pub still_none : (n n' : Noted) (w : ℕ) → embedded n.engine.core.capture.registers.cr ≡ true → n.engine.core.capture.waiting ≡ Zero
-    → eqb (byte_of w) 0xFF ≡ false → n' ≡ noted_step n w → n'.engine.core.capture.waiting ≡ Zero
+pub still_none : (n n' : Noted) (w : ℕ) → embedded n.device.core.capture.registers.cr ≡ true → n.device.core.capture.waiting ≡ Zero
+    → eqb (byte_of w) 0xFF ≡ false → n' ≡ noted_step n w → n'.device.core.capture.waiting ≡ Zero
 unfolding noted_step
-still_none n n' w coded none other e = ap (λ (x : Noted). x.engine.core.capture.waiting) e ∙ data_waits n.engine n.buffer w coded none other
+still_none n n' w coded none other e = ap (λ (x : Noted). x.device.core.capture.waiting) e ∙ data_waits n.device n.buffer w coded none other
 
 -- One sample further, and where a code begins.
 pub run_on : (samples : List ℕ) (i : ℕ) → i < length samples → eqb (byte_of (get_or samples i 0)) 0xFF ≡ false

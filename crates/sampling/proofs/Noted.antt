@@ -1,35 +1,34 @@
--- What is noted along some samples changes neither engine nor buffer; and of one sample, from places of zeros, it is the sample's two answers. Assumes nothing.
+-- What is noted along some samples changes neither device nor buffer; and of one sample, from places of zeros, it is the sample's two answers. Assumes nothing.
 use mathlib.Core.List.{List, [], ◌∷◌, ◌++◌}
 use mathlib.Core.Path.{◌≡◌, refl}
 use Prim.Native.Nat.{ℕ}
 use lib.ListN.{take, drop}
 use Rattle.refusals.specs.Refusals.{answered}
-use Rattle.rules.specs.declared.Engine.{Engine}
+use Rattle.rules.specs.declared.Device.{Device}
 use Rattle.output.specs.Output.{in_memory}
-use Rattle.rules.specs.Step.{Stepped, step, Ran, steps}
-use Rattle.rules.specs.Run.{run_refusal, SampleResult, sample}
+use Rattle.rules.specs.Run.{Stepped, step, Ran, steps, run_refusal, SampleResult, sample}
 use Rattle.fifo.specs.Notes.{noted_landing, noted_packing}
 use Rattle.fifo.proofs.SaidBack.{landing_back, packing_back}
 use Rattle.sampling.specs.Notes.{Noted, noted_step, noted_steps}
 
 pub same_run : (n : Noted) (ws : List ℕ)
-    → ◌≡◌ {A = Ran} (record { engine = (noted_steps n ws).engine; buffer = (noted_steps n ws).buffer }) (steps n.engine n.buffer ws)
+    → ◌≡◌ {A = Ran} (record { device = (noted_steps n ws).device; buffer = (noted_steps n ws).buffer }) (steps n.device n.buffer ws)
 unfolding noted_steps noted_step steps
 same_run n [] = refl
 same_run n (w ∷ ws) = same_run (noted_step n w) ws
 
-pub one_sample : (d : Engine) (b : List ℕ) (w : ℕ) {n : Noted}
-    → n ≡ noted_steps (record { engine = d; buffer = b; landings = 0 ∷ 0 ∷ []; words = 0 ∷ 0 ∷ [] }) (w ∷ [])
+pub one_sample : (d : Device) (b : List ℕ) (w : ℕ) {n : Noted}
+    → n ≡ noted_steps (record { device = d; buffer = b; landings = 0 ∷ 0 ∷ []; words = 0 ∷ 0 ∷ [] }) (w ∷ [])
     → ◌≡◌ {A = Stepped}
-    (record { engine = n.engine; buffer = n.buffer; landing = noted_landing n.landings; packed = noted_packing n.words })
+    (record { device = n.device; buffer = n.buffer; landing = noted_landing n.landings; packed = noted_packing n.words })
     (step d b w)
 unfolding noted_steps noted_step
 one_sample d b w e = rw (e, landing_back, packing_back)
 
 -- A single sample that is accepted.
-pub accepted_sample : (d : Engine) (memory : List ℕ) (start w : ℕ) {r : Stepped} → run_refusal d memory start (w ∷ []) ≡ 0 → r ≡ step d (drop start memory) w
+pub accepted_sample : (d : Device) (memory : List ℕ) (start w : ℕ) {r : Stepped} → run_refusal d memory start (w ∷ []) ≡ 0 → r ≡ step d (drop start memory) w
     → ◌≡◌ {A = SampleResult}
-    (record { answer = answered (record { landing = in_memory start r.landing; packed = r.packed }); engine = r.engine; memory = take start memory ++ r.buffer })
+    (record { answer = answered (record { landing = in_memory start r.landing; packed = r.packed }); device = r.device; memory = take start memory ++ r.buffer })
     (sample d memory start w)
 unfolding sample
 accepted_sample d memory start w accepted one = rw (accepted, one)

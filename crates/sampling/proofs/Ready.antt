@@ -1,4 +1,4 @@
--- What the calls inside a sample ask, of a well-formed engine that can count one sample more; and the sample from what they leave. Assumes nothing.
+-- What the calls inside a sample ask, of a well-formed device that can count one sample more; and the sample from what they leave. Assumes nothing.
 use mathlib.Core.List.{List}
 use mathlib.Core.Path.{◌≡◌, ap}
 use Prim.Native.Nat.{ℕ, ◌+◌, ◌≤◌, ◌<◌, ◌^◌}
@@ -12,15 +12,15 @@ use Rattle.output.specs.Output.{slot_count, with_counts, count_sample, Granted, 
 use Rattle.output.specs.WellFormed.{Laid}
 use Rattle.output.proofs.Contents.{not_malformed_laid}
 use Rattle.output.proofs.Untouched.{grant_untouched}
-use Rattle.rules.specs.WellFormed.{bad_engine, clauses}
+use Rattle.rules.specs.WellFormed.{malformed, clauses}
 use Rattle.bits.proofs.Booleans.{none as all_false}
 use Rattle.rules.specs.declared.Capture.{Capture}
-use Rattle.rules.specs.declared.Engine.{Engine}
-use Rattle.rules.specs.State.{engine, capture_of, output_of, with_pins, with_syncs}
+use Rattle.rules.specs.declared.Device.{Device}
+use Rattle.rules.specs.State.{device, capture_of, output_of, with_pins, with_syncs}
 use Rattle.rules.specs.Capture.{enabled, padded_at, Captured}
 use Rattle.rules.specs.Sample.{capture_sample}
 use Rattle.rules.specs.Unpadded.{unpadded_sample}
-use Rattle.rules.specs.Step.{Completed, complete, after_grant, step}
+use Rattle.rules.specs.Run.{Completed, complete, after_grant, step}
 use Rattle.rules.proofs.WellFormed.{CaptureOk, WellFormed, facts}
 use Rattle.fifo.specs.Notes.{note_landing, note_packing}
 use Rattle.sampling.specs.Notes.{Noted, noted_step}
@@ -38,16 +38,16 @@ pub more_lines : {m n : ℕ} {s : Capture} → m ≤ n → CaptureOk m s → Cap
 unfolding with_pins with_syncs
 more_lines {s = s} le h = pins_syncs_ok s.pins s.syncs le h
 
--- An engine that is not malformed is well-formed, and its FIFO is laid out in its slots.
-pub ready : (d : Engine) → length d.slots ≡ slot_count → bad_engine d ≡ false → WellFormed d × Laid (output_of d)
-unfolding bad_engine
+-- A device that is not malformed is well-formed, and its FIFO is laid out in its slots.
+pub ready : (d : Device) → length d.slots ≡ slot_count → malformed d ≡ false → WellFormed d × Laid (output_of d)
+unfolding malformed
 ready d all e = (facts d e, not_malformed_laid (output_of d) all (all_false (clauses d) e).0 (facts d e).output.depth)
 
--- Rule 1 of a sample of the engine.
-abbrev pub granted_of : Engine → List ℕ → ℕ → Granted
+-- Rule 1 of a sample of the device.
+abbrev pub granted_of : Device → List ℕ → ℕ → Granted
 granted_of d b w = grant (bus_grant w) (enabled (capture_of d)) (counted (output_of d)) b
 
-module _ (d : Engine) (b : List ℕ) (w : ℕ) (well : WellFormed d) (laid : Laid (output_of d)) (fits : d.core.output.counts.samples + 1 < 2 ^ 32) where
+module _ (d : Device) (b : List ℕ) (w : ℕ) (well : WellFormed d) (laid : Laid (output_of d)) (fits : d.core.output.counts.samples + 1 < 2 ^ 32) where
   pub asks_grant : Laid (counted (output_of d)) × ((d.core.output.place + 1 < 2 ^ 32) × (d.core.output.counts.landed + 1 < 2 ^ 32))
   asks_grant =
       let q = well.output in
@@ -65,11 +65,11 @@ module _ (d : Engine) (b : List ℕ) (w : ℕ) (well : WellFormed d) (laid : Lai
       )
 
 -- A sample that pads no word, from what rule 1, rules 2 to 8 and rule 9 leave and answer.
-pub stepped : (d : Engine) (b l v : List ℕ) (w : ℕ) {g : Granted} {c : Captured} {r : Completed} → Plain (capture_of d) w → g ≡ granted_of d b w
+pub stepped : (d : Device) (b l v : List ℕ) (w : ℕ) {g : Granted} {c : Captured} {r : Completed} → Plain (capture_of d) w → g ≡ granted_of d b w
     → c ≡ unpadded_sample (capture_of d) w → r ≡ complete c.word c g.state
     → ◌≡◌ {A = Noted}
-    (record { engine = r.engine; buffer = g.buffer; landings = note_landing g.landing l; words = note_packing r.packed v })
-    (noted_step (record { engine = d; buffer = b; landings = l; words = v }) w)
+    (record { device = r.device; buffer = g.buffer; landings = note_landing g.landing l; words = note_packing r.packed v })
+    (noted_step (record { device = d; buffer = b; landings = l; words = v }) w)
 unfolding noted_step
 stepped d b l v w (plain, unpadded) granted captured after = rw (step_unpadded d b w plain unpadded, after, captured, granted)
 
@@ -78,20 +78,20 @@ pub ended_fits : {n : ℕ} {s : Capture} (w v : ℕ) → CaptureOk n s → embed
 unfolding ended
 ended_fits {s = s} w v h plain e = rw (← ap (λ (c : Captured). c.state) (sample_padded s w v plain (uncropped s.registers h.allowed) e)) (sample_ok w h).ris
 
-pub stepped_padded : (d : Engine) (b l v : List ℕ) (w : ℕ) {g : Granted} {r : Completed} → WellFormed d → embedded d.core.capture.registers.cr ≡ false → padded_at (capture_of d) w ≡ some d.core.capture.partial.bits
+pub stepped_padded : (d : Device) (b l v : List ℕ) (w : ℕ) {g : Granted} {r : Completed} → WellFormed d → embedded d.core.capture.registers.cr ≡ false → padded_at (capture_of d) w ≡ some d.core.capture.partial.bits
     → g ≡ granted_of d b w → r ≡ complete (some d.core.capture.partial.bits) (with_word d.core.capture.partial.bits true (ended (capture_of d) w)) g.state
     → ◌≡◌ {A = Noted}
-    (record { engine = r.engine; buffer = g.buffer; landings = note_landing g.landing l; words = note_packing r.packed v })
-    (noted_step (record { engine = d; buffer = b; landings = l; words = v }) w)
+    (record { device = r.device; buffer = g.buffer; landings = note_landing g.landing l; words = note_packing r.packed v })
+    (noted_step (record { device = d; buffer = b; landings = l; words = v }) w)
 unfolding noted_step step after_grant complete ended
 stepped_padded d b l v w well plain padded granted after =
     rw (sample_padded (capture_of d) w d.core.capture.partial.bits plain (uncropped d.core.capture.registers well.capture.allowed) padded, after, granted)
 
 -- A sample by codes (W6), from what rule 1, rules 2 to 8 and rule 9 leave and answer.
-pub stepped_coded : (d : Engine) (b l v : List ℕ) (w : ℕ) {g : Granted} {c : Captured} {r : Completed} → g ≡ granted_of d b w
+pub stepped_coded : (d : Device) (b l v : List ℕ) (w : ℕ) {g : Granted} {c : Captured} {r : Completed} → g ≡ granted_of d b w
     → c ≡ capture_sample (capture_of d) w → r ≡ complete c.word c g.state
     → ◌≡◌ {A = Noted}
-    (record { engine = r.engine; buffer = g.buffer; landings = note_landing g.landing l; words = note_packing r.packed v })
-    (noted_step (record { engine = d; buffer = b; landings = l; words = v }) w)
+    (record { device = r.device; buffer = g.buffer; landings = note_landing g.landing l; words = note_packing r.packed v })
+    (noted_step (record { device = d; buffer = b; landings = l; words = v }) w)
 unfolding noted_step step after_grant
 stepped_coded d b l v w granted captured after = rw (after, captured, granted)

@@ -15,9 +15,9 @@ use Rattle.bits.proofs.Booleans.{by_cond, and_unit}
 use Rattle.registers.specs.Control.{jpeg, embedded, vspol}
 use Rattle.samples.specs.Samples.{vsync_pin, level_run}
 use Rattle.samples.proofs.Levels.{AtLevel, run_level, run_within, run_on}
-use Rattle.rules.specs.declared.Engine.{Engine}
+use Rattle.rules.specs.declared.Device.{Device}
 use Rattle.rules.specs.State.{capture_of}
-use Rattle.rules.specs.Step.{step}
+use Rattle.rules.specs.Run.{step}
 use Rattle.laws.proofs.RegisterValues.{half_setup, same_jpeg, same_embedded, same_vspol}
 use Rattle.laws.proofs.KeepsSample.{step_half}
 use Rattle.laws.proofs.Unpadded.{none_without_jpeg, none_unless_vsync, none_without_data, step_without_data}
@@ -25,22 +25,22 @@ use Rattle.sampling.specs.Notes.{Noted, noted_step}
 use Rattle.sampling.specs.Unpadded.{Plain, Unpadded, stretch}
 
 -- ESS stays.
-step_plain : (d : Engine) (b : List ℕ) (w : ℕ) → embedded d.core.capture.registers.cr ≡ false → embedded (step d b w).engine.core.capture.registers.cr ≡ false
+step_plain : (d : Device) (b : List ℕ) (w : ℕ) → embedded d.core.capture.registers.cr ≡ false → embedded (step d b w).device.core.capture.registers.cr ≡ false
 step_plain d b w e = same_embedded _ _ (half_setup _ _ (step_half d b w)) ∙ e
 
-pub without_jpeg : (d : Engine) (b ws : List ℕ) → embedded d.core.capture.registers.cr ≡ false → jpeg d.core.capture.registers.cr ≡ false → Unpadded d b ws
+pub without_jpeg : (d : Device) (b ws : List ℕ) → embedded d.core.capture.registers.cr ≡ false → jpeg d.core.capture.registers.cr ≡ false → Unpadded d b ws
 unfolding Unpadded
 without_jpeg d b [] plain e = tt
 without_jpeg d b (w ∷ ws) plain e =
-    ((plain, none_without_jpeg (capture_of d) w e), without_jpeg (step d b w).engine (step d b w).buffer ws (step_plain d b w plain) (same_jpeg _ _ (half_setup _ _ (step_half d b w)) ∙ e))
+    ((plain, none_without_jpeg (capture_of d) w e), without_jpeg (step d b w).device (step d b w).buffer ws (step_plain d b w plain) (same_jpeg _ _ (half_setup _ _ (step_half d b w)) ∙ e))
 
 -- The first of them, and the rest.
-pub first_unpadded : (d : Engine) (b samples : List ℕ) (i : ℕ) → i < length samples → Unpadded d b (drop i samples) → Plain (capture_of d) (get_or samples i 0)
+pub first_unpadded : (d : Device) (b samples : List ℕ) (i : ℕ) → i < length samples → Unpadded d b (drop i samples) → Plain (capture_of d) (get_or samples i 0)
 unfolding Unpadded
 first_unpadded d b samples i inside u = (rw (drop-cons samples i 0 inside) at u).0
 
-pub rest_unpadded : (samples : List ℕ) (n n' : Noted) (i : ℕ) → i < length samples → Unpadded n.engine n.buffer (drop i samples) → n' ≡ noted_step n (get_or samples i 0)
-    → Unpadded n'.engine n'.buffer (drop (i + 1) samples)
+pub rest_unpadded : (samples : List ℕ) (n n' : Noted) (i : ℕ) → i < length samples → Unpadded n.device n.buffer (drop i samples) → n' ≡ noted_step n (get_or samples i 0)
+    → Unpadded n'.device n'.buffer (drop (i + 1) samples)
 unfolding Unpadded noted_step
 rest_unpadded samples n n' i inside u e = rw (e, add-one) (rw (drop-cons samples i 0 inside) at u).1
 
@@ -49,25 +49,25 @@ beq_same true = refl
 beq_same false = refl
 
 -- Samples at which VSYNC has a level pad no word where it does not blank at that level, or no datum waits.
-step_vspol : (d : Engine) (b : List ℕ) (w : ℕ) → vspol (step d b w).engine.core.capture.registers.cr ≡ vspol d.core.capture.registers.cr
+step_vspol : (d : Device) (b : List ℕ) (w : ℕ) → vspol (step d b w).device.core.capture.registers.cr ≡ vspol d.core.capture.registers.cr
 step_vspol d b w = same_vspol _ _ (half_setup _ _ (step_half d b w))
 
-quiet : (level : Bool) (d : Engine) (b ws : List ℕ) → embedded d.core.capture.registers.cr ≡ false → AtLevel level ws → beq level (vspol d.core.capture.registers.cr) ≡ false → Unpadded d b ws
+quiet : (level : Bool) (d : Device) (b ws : List ℕ) → embedded d.core.capture.registers.cr ≡ false → AtLevel level ws → beq level (vspol d.core.capture.registers.cr) ≡ false → Unpadded d b ws
 unfolding AtLevel Unpadded
 quiet level d b [] plain all e = tt
 quiet level d b (w ∷ ws) plain all e =
-    ((plain, none_unless_vsync (capture_of d) w (rw all.0 e)), quiet level (step d b w).engine (step d b w).buffer ws (step_plain d b w plain) all.1 (rw (step_vspol d b w) e))
+    ((plain, none_unless_vsync (capture_of d) w (rw all.0 e)), quiet level (step d b w).device (step d b w).buffer ws (step_plain d b w plain) all.1 (rw (step_vspol d b w) e))
 
-blanked : (level : Bool) (d : Engine) (b ws : List ℕ) → embedded d.core.capture.registers.cr ≡ false → AtLevel level ws → beq level (vspol d.core.capture.registers.cr) ≡ true
+blanked : (level : Bool) (d : Device) (b ws : List ℕ) → embedded d.core.capture.registers.cr ≡ false → AtLevel level ws → beq level (vspol d.core.capture.registers.cr) ≡ true
     → d.core.capture.partial.count ≡ 0 → Unpadded d b ws
 unfolding AtLevel Unpadded
 blanked level d b [] plain all e none_waits = tt
 blanked level d b (w ∷ ws) plain all e none_waits = (
   (plain, none_without_data (capture_of d) w none_waits),
-  blanked level (step d b w).engine (step d b w).buffer ws (step_plain d b w plain) all.1 (rw (step_vspol d b w) e) (step_without_data d b w plain (rw all.0 e) none_waits),
+  blanked level (step d b w).device (step d b w).buffer ws (step_plain d b w plain) all.1 (rw (step_vspol d b w) e) (step_without_data d b w plain (rw all.0 e) none_waits),
 )
 
-at_level : (level : Bool) (d : Engine) (b ws : List ℕ) → embedded d.core.capture.registers.cr ≡ false → AtLevel level ws
+at_level : (level : Bool) (d : Device) (b ws : List ℕ) → embedded d.core.capture.registers.cr ≡ false → AtLevel level ws
     → (beq level (vspol d.core.capture.registers.cr) ≡ true → d.core.capture.partial.count ≡ 0) → Unpadded d b ws
 at_level level d b ws plain all waits = go (beq level (vspol d.core.capture.registers.cr)) refl
   where
@@ -83,11 +83,11 @@ no_wait n false e is = absurd (false≢true is)
 one_of : (samples : List ℕ) (i : ℕ) → i < length samples → take (i + 1 - i) (drop i samples) ≡ get_or samples i 0 ∷ []
 one_of samples i inside = let one : i + 1 - i ≡ 1 = omega arith in rw (one, drop-cons samples i 0 inside)
 
-alone : (d : Engine) (b : List ℕ) (w : ℕ) → Plain (capture_of d) w → Unpadded d b (w ∷ [])
+alone : (d : Device) (b : List ℕ) (w : ℕ) → Plain (capture_of d) w → Unpadded d b (w ∷ [])
 unfolding Unpadded
 alone d b w e = (e, tt)
 
-module _ (d : Engine) (b samples : List ℕ) (i : ℕ) (inside : i < length samples) where
+module _ (d : Device) (b samples : List ℕ) (i : ℕ) (inside : i < length samples) where
   pub stretch_within : let k = stretch samples i d.core.capture.partial.count (vspol d.core.capture.registers.cr) in (i < k) × (k ≤ length samples)
   unfolding stretch
   stretch_within =

@@ -1,12 +1,12 @@
 -- Samples with their two answers noted in lent places (crate `fifo`, Notes). No contract of a call that users make cites them.
 use Rattle.std.specs.Prelude.{List, [], ◌∷◌, ℕ}
-use Rattle.rules.specs.declared.Engine.{Engine}
-use Rattle.rules.specs.Step.{step}
+use Rattle.rules.specs.declared.Device.{Device}
+use Rattle.rules.specs.Run.{step}
 use Rattle.fifo.specs.Notes.{note_landing, note_packing}
 
--- Engine, frame buffer and places.
+-- Device, frame buffer and places.
 pub record Noted : Type 0 where
-  pub engine : Engine
+  pub device : Device
   pub buffer : List ℕ
   pub landings : List ℕ
   pub words : List ℕ
@@ -14,9 +14,9 @@ pub record Noted : Type 0 where
 -- One sample, with its answers noted; and some samples.
 unfoldable pub noted_step : Noted → ℕ → Noted
 noted_step n w =
-    let r = step n.engine n.buffer w in
+    let r = step n.device n.buffer w in
     record {
-      engine = r.engine;
+      device = r.device;
       buffer = r.buffer;
       landings = note_landing r.landing n.landings;
       words = note_packing r.packed n.words;

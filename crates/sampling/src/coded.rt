@@ -31,7 +31,7 @@ fn coded_step(
     words: &mut [u32; 2],
     w: u32,
 ) -> Core
-    requires well_formed { WellFormed (word_answers.engine d slots.old) }
+    requires well_formed { WellFormed (word_answers.device d slots.old) }
     requires laid { Laid (output_answers.left d.output slots.old) }
     requires samples_bound { d.output.counts.samples + 1 < 2 ^ 32 }
     requires cr_value { embedded d.capture.registers.cr ≡ true }
@@ -58,7 +58,7 @@ fn data_step(
     words: &mut [u32; 2],
     w: u32,
 ) -> Core
-    requires well_formed { WellFormed (word_answers.engine d slots.old) }
+    requires well_formed { WellFormed (word_answers.device d slots.old) }
     requires laid { Laid (output_answers.left d.output slots.old) }
     requires samples_bound { d.output.counts.samples + 1 < 2 ^ 32 }
     requires cr_value { (embedded d.capture.registers.cr ≡ true) × (d.capture.waiting ≡ Zero) × (eqb (byte_of w) 0xFF ≡ false) }
@@ -85,7 +85,7 @@ fn data_steps(
     words: &mut [u32; 2],
     samples: &[u32],
 ) -> Core
-    requires well_formed { WellFormed (word_answers.engine d slots.old) }
+    requires well_formed { WellFormed (word_answers.device d slots.old) }
     requires laid { Laid (output_answers.left d.output slots.old) }
     requires samples_bound { d.output.counts.samples + length samples.now < 2 ^ 32 }
     requires cr_value { (embedded d.capture.registers.cr ≡ true) × (d.capture.waiting ≡ Zero) × data_bytes.NoneBegins samples.now }
@@ -150,7 +150,7 @@ pub fn coded_steps(
     words: &mut [u32; 2],
     samples: &[u32],
 ) -> Core
-    requires well_formed { WellFormed (word_answers.engine d slots.old) }
+    requires well_formed { WellFormed (word_answers.device d slots.old) }
     requires laid { Laid (output_answers.left d.output slots.old) }
     requires samples_bound { d.output.counts.samples + length samples.now < 2 ^ 32 }
     requires cr_value { embedded d.capture.registers.cr ≡ true }

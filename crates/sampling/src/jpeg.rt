@@ -32,7 +32,7 @@ fn padded_step(
     words: &mut [u32; 2],
     w: u32,
 ) -> Core
-    requires well_formed { WellFormed (word_answers.engine d slots.old) }
+    requires well_formed { WellFormed (word_answers.device d slots.old) }
     requires laid { Laid (output_answers.left d.output slots.old) }
     requires samples_bound { d.output.counts.samples + 1 < 2 ^ 32 }
     requires cr_value { (control_fields.embedded d.capture.registers.cr ≡ false) × (capture_rules.padded_at d.capture w ≡ some d.capture.partial.bits) }
@@ -81,7 +81,7 @@ pub fn jpeg_steps(
     words: &mut [u32; 2],
     samples: &[u32],
 ) -> Core
-    requires well_formed { WellFormed (word_answers.engine d slots.old) }
+    requires well_formed { WellFormed (word_answers.device d slots.old) }
     requires laid { Laid (output_answers.left d.output slots.old) }
     requires samples_bound { d.output.counts.samples + length samples.now < 2 ^ 32 }
     requires cr_value { control_fields.embedded d.capture.registers.cr ≡ false }

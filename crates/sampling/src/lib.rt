@@ -1,14 +1,16 @@
-// One sample whole, over the engine and the frame buffer: the grant (rule 1), the capture rules, and the full word (rule 9). The slots are lent and the rest goes by
-// value (docs/SPEED.md). The functions are for the crates `engine` and `files`, which call them on well-formed engines; each states its result as an equation with its
+// One sample whole, over the device and the frame buffer: the grant (rule 1), the capture rules, and the full word (rule 9). The slots are lent and the rest goes by
+// value (docs/SPEED.md). The functions are for the crates `device` and `files`, which call them on well-formed devices; each states its result as an equation with its
 // definition.
+#![tactic(auto)]
+
 ghost use Rattle.std.specs.Prelude.{false, ◌≡◌, ◌+◌, ◌<◌, ◌^◌, length};
 ghost use Rattle.samples.specs.Samples.{bus_grant};
 ghost use Rattle.output.specs.Answers as output_answers;
 ghost use Rattle.output.specs.Output.{grant as rule_1};
 ghost use Rattle.output.specs.WellFormed.{Laid};
 ghost use Rattle.rules.specs.Capture.{enabled};
-ghost use Rattle.rules.specs.Step as step_rules;
-ghost use Rattle.rules.specs.WellFormed.{bad_engine};
+ghost use Rattle.rules.specs.Run as run_rules;
+ghost use Rattle.rules.specs.WellFormed.{malformed};
 ghost use Rattle.rules.proofs.WellFormed.{WellFormed};
 ghost use Rattle.sampling.specs.Unpadded as unpadded;
 ghost use Rattle.full_word.specs.Answers as word_answers;
@@ -29,12 +31,12 @@ use fifo::{count_sample, grant, no_landing};
 use full_word::complete;
 use output::{Granted, Landing, Output, Packing, SLOTS};
 use refusals::Refusal;
-use rules::{Capture, Core, Engine};
+use rules::{Capture, Core, Device};
 use samples::bus_grant;
 
 // One sample over a core and lent slots: the core after it, where a word landed, as a byte of the lent memory, and what became of the sample's own word; or a refusal, which
 // has no core: so the compiler need not keep one (docs/SPEED.md).
-#[derive(Drop)]
+#[derive(Clone, Copy)]
 pub enum SampledCore {
     Answered(Core, Landing, Packing),
     Refused(Refusal),
@@ -61,7 +63,7 @@ fn step(
     words: &mut [u32; 2],
     w: u32,
 ) -> Core
-    requires well_formed { WellFormed (word_answers.engine d slots.old) }
+    requires well_formed { WellFormed (word_answers.device d slots.old) }
     requires laid { Laid (output_answers.left d.output slots.old) }
     requires samples_bound { d.output.counts.samples + 1 < 2 ^ 32 }
     requires plain { unpadded.Plain d.capture w }
@@ -88,10 +90,10 @@ fn unpadded_steps(
     words: &mut [u32; 2],
     samples: &[u32],
 ) -> Core
-    requires well_formed { WellFormed (word_answers.engine d slots.old) }
+    requires well_formed { WellFormed (word_answers.device d slots.old) }
     requires laid { Laid (output_answers.left d.output slots.old) }
     requires samples_bound { d.output.counts.samples + length samples.now < 2 ^ 32 }
-    requires unpadded { unpadded.Unpadded (word_answers.engine d slots.old) buffer.old samples.now }
+    requires unpadded { unpadded.Unpadded (word_answers.device d slots.old) buffer.old samples.now }
     ensures { sample_answers.noted result slots.new buffer.new landings.new words.new ≡ note_rules.noted_steps (sample_answers.noted d slots.old buffer.old landings.old words.old) samples.now }
 {
     let mut e = d;
@@ -113,7 +115,7 @@ pub fn steps(
     words: &mut [u32; 2],
     samples: &[u32],
 ) -> Core
-    requires well_formed { WellFormed (word_answers.engine d slots.old) }
+    requires well_formed { WellFormed (word_answers.device d slots.old) }
     requires laid { Laid (output_answers.left d.output slots.old) }
     requires samples_bound { d.output.counts.samples + length samples.now < 2 ^ 32 }
     ensures { sample_answers.noted result slots.new buffer.new landings.new words.new ≡ note_rules.noted_steps (sample_answers.noted d slots.old buffer.old landings.old words.old) samples.now }
@@ -127,11 +129,11 @@ pub fn steps(
     unpadded_steps(d, slots, buffer, landings, words, samples)
 }
 
-// The samples in order over an engine by value: its slots are taken out for the loop, and put back. What is noted is not read.
-pub fn run(d: Engine, buffer: &mut [u8], samples: &[u32]) -> Engine
-    requires d_value { bad_engine d ≡ false }
+// The samples in order over a device by value: its slots are taken out for the loop, and put back. What is noted is not read.
+pub fn run(d: Device, buffer: &mut [u8], samples: &[u32]) -> Device
+    requires d_value { malformed d ≡ false }
     requires samples_bound { d.core.output.counts.samples + length samples.now < 2 ^ 32 }
-    ensures { sample_answers.ran result buffer.new ≡ step_rules.steps d buffer.old samples.now }
+    ensures { sample_answers.ran result buffer.new ≡ run_rules.steps d buffer.old samples.now }
 {
     let mut slots = d.slots;
     let mut landings = [0; 2];
@@ -144,5 +146,5 @@ pub fn run(d: Engine, buffer: &mut [u8], samples: &[u32]) -> Engine
         &mut words,
         samples,
     );
-    Engine { core, slots }
+    Device { core, slots }
 }

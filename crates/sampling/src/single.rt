@@ -22,7 +22,7 @@ pub fn sample_core(
     w: u32,
 ) -> SampledCore
     requires { length slots.old ≡ slot_count }
-    ensures { sample_answers.sampled_core core result slots.new memory.new ≡ run_rules.sample (word_answers.engine core slots.old) memory.old start w }
+    ensures { sample_answers.sampled_core core result slots.new memory.new ≡ run_rules.sample (word_answers.device core slots.old) memory.old start w }
 {
     let bad = malformed_core(core, slots);
     let one = [w];

@@ -1,5 +1,7 @@
 // Text: bytes, and numbers in decimal, in a lent buffer from a byte on; hexadecimal digits. What is put is as much as fits; the answer is the place behind it, and every other byte stays. Each function
 // answers for every buffer, place and number.
+#![tactic(auto)]
+
 ghost use Rattle.std.specs.Prelude.{[], ◌∷◌, ◌≡◌, ◌<◌};
 ghost use Rattle.text.specs.Text as text_rules;
 ghost use Rattle.text.specs.Putting as putting_rules;

@@ -1,6 +1,8 @@
 // A trace file, version 1 or 2: the form checks, and samples many at a time, into a lent array. For a file that comes by parts, the checks of its header and of its
 // length, and a write or sample from its bytes.
 // It knows nothing of the device. Each function answers for every slice and number, and states its answer as an equation with a definition.
+#![tactic(auto)]
+
 
 mod decoding;
 mod form;
@@ -12,7 +14,7 @@ pub use form::{
 use refusals::Refusal;
 
 // Samples many at a time: so many of them, at the front of an array; the end; or a refusal.
-#[derive(Drop)]
+#[derive(Clone, Copy)]
 pub enum Samples {
     Many(usize),
     End,

@@ -1,6 +1,8 @@
 // The trace file, versions 1 and 2, as definitions: its bytes, the form checks, the item at a place, a reader's walk. proofs/ has their laws: what is encoded reads
 // back, and a file of good form is encoded from what it holds. The code is what the crates that read and write files share, and for them alone: a register write,
 // the sizes of a file's parts, and its header.
+#![tactic(auto)]
+
 ghost use Rattle.std.specs.Prelude.{◌≡◌, ◌<◌, ◌≤◌, ◌^◌, length};
 ghost use Rattle.std.proofs.lemmas.List.Edits.{sets};
 ghost use Rattle.trace_format.specs.Format as format;
@@ -8,7 +10,7 @@ ghost use Rattle.trace_format.specs.Format as format;
 use numbers::put;
 
 // A register write as a file has it: any offset byte, any 32-bit value.
-#[derive(Drop)]
+#[derive(Clone, Copy)]
 pub struct Write {
     pub offset: u8,
     pub value: u32,

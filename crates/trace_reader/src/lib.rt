@@ -1,5 +1,7 @@
 // A trace file's items one at a time, first the writes, then the samples, then the end: from a slice and a place, or from a reader that holds them. Each function
 // answers for every slice and number, and states its answer as an equation with a definition. `item_at` alone makes no form checks: it is for the crates of this repository, which have made them.
+#![tactic(auto)]
+
 
 mod items;
 mod reader;
@@ -10,7 +12,7 @@ use refusals::Refusal;
 use trace_format::Write;
 
 // What stands at a place of a file.
-#[derive(Drop)]
+#[derive(Clone, Copy)]
 pub enum Item {
     Write(Write),
     Sample(u32),
@@ -19,7 +21,7 @@ pub enum Item {
 }
 
 // What a reader found at its place, and its place afterwards.
-#[derive(Drop)]
+#[derive(Clone, Copy)]
 pub struct Read {
     pub item: Item,
     pub place: usize,

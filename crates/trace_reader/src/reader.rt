@@ -6,7 +6,7 @@ ghost use Rattle.trace_reader.specs.Answers as trace_answers;
 use crate::items::read_at;
 use crate::{Item, Read};
 
-#[derive(Drop)]
+#[derive(Clone, Copy)]
 pub struct Reader<'a> {
     pub file: &'a [u8],
     pub place: usize,

@@ -1,4 +1,6 @@
 // The writer: a trace file of some writes and samples into a lent buffer. It answers for every input. proofs/ has the two round trips.
+#![tactic(auto)]
+
 ghost use Rattle.std.specs.Prelude.{◌≡◌, ◌++◌, ◌+◌, ◌*◌, ◌≤◌, length};
 ghost use Rattle.std.proofs.lemmas.List.Edits.{sets};
 ghost use Rattle.numbers.specs.Numbers.{little};
@@ -12,7 +14,7 @@ use samples::any_bad;
 use trace_format::{SAMPLE_SIZE, WRITE_SIZE, header_for, put_header};
 
 // Its answer: the length of the file that it wrote, or why it wrote none.
-#[derive(Drop)]
+#[derive(Clone, Copy)]
 pub enum Written {
     Length(usize),
     Refused(Refusal),

@@ -1,4 +1,6 @@
 // W2, two frame buffers in turn, in code (crate `buffers` has the definitions). The functions are for the crates of this repository; each states its result as an equation with its definition.
+#![tactic(auto)]
+
 ghost use Rattle.std.specs.Prelude.{cond, ◌≡◌, ◌+◌, ◌<◌, ◌^◌};
 ghost use Rattle.buffers.specs.Turns as turn_rules;
 ghost use Rattle.buffers.specs.declared.Content.TheVariants.{Landing};
@@ -7,7 +9,7 @@ ghost use Rattle.turning.specs.Answers as buffer_answers;
 use buffers::{Buffer, Content, Turns};
 
 // The buffer of the latest complete frame, if there is one.
-#[derive(Drop)]
+#[derive(Clone, Copy)]
 pub enum Latest {
     Nothing,
     In(Buffer),

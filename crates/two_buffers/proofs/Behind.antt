@@ -22,11 +22,11 @@ use Rattle.buffers.specs.Kept.{keep, keeps}
 use Rattle.output.specs.Output.{with_place, room, Packed, nothing, completed, lost}
 use Rattle.rules.specs.State.{capture_of}
 use Rattle.rules.specs.Sample.{capture_sample}
-use Rattle.rules.specs.Effects.{placed}
-use Rattle.rules.specs.Step.{step, Ran, steps}
+use Rattle.rules.specs.RegisterCalls.{placed}
+use Rattle.rules.specs.Run.{step, Ran, steps}
 use Rattle.output.specs.Ledger.{Ledger, sample_entry, landing_entry, numbers}
 use Rattle.laws.specs.Ledger.{word_entry}
-use Rattle.two_memory_rules.specs.TwoBuffers.{landing_event, word_event, Pair, part, Two, two_steps}
+use Rattle.board_rules.specs.TwoBuffers.{landing_event, word_event, Pair, part, Two, two_steps}
 use Rattle.two_buffers.specs.Stretches.{tags_in, long, no_room, opening_behind, words_behind, turns_behind, Lasts}
 use Rattle.two_buffers.proofs.Alone.{none_yet}
 use Rattle.two_buffers.proofs.Tagging.{again_first, held_more}
@@ -174,7 +174,7 @@ long_part : (u : Buffer) (m : Pair) → long u (length m.a) (length m.b) ≡ len
 long_part A m = refl
 long_part B m = refl
 
-module _ (x : Two) (stuck : no_room x.engine.core.output x.turns (length x.buffers.a) (length x.buffers.b) ≡ true) where
+module _ (x : Two) (stuck : no_room x.device.core.output x.turns (length x.buffers.a) (length x.buffers.b) ≡ true) where
   abbrev t : Turns
   t = x.turns
 
@@ -182,31 +182,31 @@ module _ (x : Two) (stuck : no_room x.engine.core.output x.turns (length x.buffe
   u = oldest_buffer x.turns
 
   abbrev h : ℕ
-  h = x.engine.core.output.held
+  h = x.device.core.output.held
 
   abbrev gone : Ledger → Bool
-  gone l = ltb x.engine.core.output.counts.discarded l.discarded
+  gone l = ltb x.device.core.output.counts.discarded l.discarded
 
   abbrev turns_at : Ledger → ℕ → Turns
   turns_at l p = turns_behind h (gone l) l.held t
 
   abbrev place_at : Ledger → ℕ → ℕ
-  place_at l p = x.engine.core.output.place
+  place_at l p = x.device.core.output.place
 
   abbrev first_at : ℕ
-  first_at = oldest_place x.engine.core.output.place t
+  first_at = oldest_place x.device.core.output.place t
 
-  -- Engine, turns and buffers, by the run.
+  -- Device, turns and buffers, by the run.
   abbrev pub run_behind : Ran → Two
   run_behind r = run_as x u turns_at place_at r
 
   -- None was lost.
   record On (r : Ran) : Type 0 where
-    grown : x.engine.core.output.counts.discarded ≤ r.engine.core.output.counts.discarded
-    none_lost : gone (numbers r.engine.core.output) ≡ false
-    more : h ≤ r.engine.core.output.held
-    at : r.engine.core.output.place ≡ first_at
-    full : room r.engine.core.output.place r.buffer ≡ false
+    grown : x.device.core.output.counts.discarded ≤ r.device.core.output.counts.discarded
+    none_lost : gone (numbers r.device.core.output) ≡ false
+    more : h ≤ r.device.core.output.held
+    at : r.device.core.output.place ≡ first_at
+    full : room r.device.core.output.place r.buffer ≡ false
 
   same_turns : (l : Ledger) (p : ℕ) → turns_at (sample_entry l) p ≡ turns_at l p
   unfolding sample_entry
@@ -216,52 +216,52 @@ module _ (x : Two) (stuck : no_room x.engine.core.output x.turns (length x.buffe
   same_place l p = refl
 
   -- The oldest word keeps its buffer and its place.
-  oldest : (r : Ran) (n : ℕ) → On r → r.engine.core.output.held ≡ suc n
-      → let l = numbers r.engine.core.output in
-      let p = r.engine.core.output.place in
+  oldest : (r : Ran) (n : ℕ) → On r → r.device.core.output.held ≡ suc n
+      → let l = numbers r.device.core.output in
+      let p = r.device.core.output.place in
       (oldest_buffer (turns_at l p) ≡ u) × (oldest_place (place_at l p) (turns_at l p) ≡ p)
   unfolding turns_behind no_room
   oldest r n on e =
-      let l = numbers r.engine.core.output in
+      let l = numbers r.device.core.output in
       let (held, short) = and_true (not (eqb h 0)) _ stuck in
       let is = some_behind h l.held t (not-true _ held) in
       rw on.none_lost (is.buffer, place_behind _ t (held_behind h l.held t) is ∙ sym on.at)
 
   -- A sample's events.
-  events_of : (q : Packed) (l : Ledger) (p : ℕ) → h ≤ l.held → gone l ≡ false → x.engine.core.output.counts.discarded ≤ l.discarded
+  events_of : (q : Packed) (l : Ledger) (p : ℕ) → h ≤ l.held → gone l ≡ false → x.device.core.output.counts.discarded ≤ l.discarded
       → keeps (record { turns = turns_at l p; place_a = place_at l p; held = l.held }) (word_event q)
       ≡ record { turns = turns_at (entered none q l) p; place_a = place_at (entered none q l) p; held = (entered none q l).held }
   unfolding keeps keep sample_entry landing_entry word_entry turns_behind
   events_of nothing l p le none_lost grown = refl
   events_of (completed v) l p le none_lost grown =
-      rw none_lost (ap (λ (s : Turns). record { turns = s; place_a = x.engine.core.output.place; held = l.held + 1 }) (word_behind h l.held t le))
+      rw none_lost (ap (λ (s : Turns). record { turns = s; place_a = x.device.core.output.place; held = l.held + 1 }) (word_behind h l.held t le))
   events_of lost l p le none_lost grown =
-      rw (none_lost, lt-ltb x.engine.core.output.counts.discarded (l.discarded + (l.held + 1)) (omega arith))
-      (ap (λ (s : Turns). record { turns = s; place_a = x.engine.core.output.place; held = 0 }) (lost_behind h l.held t))
+      rw (none_lost, lt-ltb x.device.core.output.counts.discarded (l.discarded + (l.held + 1)) (omega arith))
+      (ap (λ (s : Turns). record { turns = s; place_a = x.device.core.output.place; held = 0 }) (lost_behind h l.held t))
 
-  events : (r : Ran) (w : ℕ) → On r → (capture_sample (capture_of r.engine) w).error ≡ false
-      → let R = step r.engine r.buffer w in
-      let l = numbers r.engine.core.output in
-      let p = r.engine.core.output.place in
+  events : (r : Ran) (w : ℕ) → On r → (capture_sample (capture_of r.device) w).error ≡ false
+      → let R = step r.device r.buffer w in
+      let l = numbers r.device.core.output in
+      let p = r.device.core.output.place in
       (keeps (keeps (record { turns = turns_at l p; place_a = place_at l p; held = l.held }) (landing_event R.landing)) (word_event R.packed)
       ≡ record { turns = turns_at (entered R.landing R.packed l) (place_after R.landing p); place_a = place_at (entered R.landing R.packed l) (place_after R.landing p); held = (entered R.landing R.packed l).held })
       × (¬ (R.packed ≡ lost) → On (next r w))
   unfolding keeps
   events r w on quiet =
-      let R = step r.engine r.buffer w in
-      let l = numbers r.engine.core.output in
-      let p = r.engine.core.output.place in
-      let (none_lands, stays) = full_landing r.engine r.buffer w on.full in
-      let counts : numbers R.engine.core.output ≡ entered none R.packed l = rw none_lands at (numbers_after r.engine r.buffer w quiet) in
-      let same_at : R.engine.core.output.place ≡ p = rw none_lands at (step_place r.engine r.buffer w) in (
+      let R = step r.device r.buffer w in
+      let l = numbers r.device.core.output in
+      let p = r.device.core.output.place in
+      let (none_lands, stays) = full_landing r.device r.buffer w on.full in
+      let counts : numbers R.device.core.output ≡ entered none R.packed l = rw none_lands at (numbers_after r.device r.buffer w quiet) in
+      let same_at : R.device.core.output.place ≡ p = rw none_lands at (step_place r.device r.buffer w) in (
         rw none_lands (events_of R.packed l p on.more on.none_lost on.grown),
         λ kept.
             let (same_gone, more) = entered_kept R.packed l kept in
-            let gone_is : R.engine.core.output.counts.discarded ≡ l.discarded = ap (λ (n : Ledger). n.discarded) counts ∙ same_gone in
-            let held_is : R.engine.core.output.held ≡ (entered none R.packed l).held = ap (λ (n : Ledger). n.held) counts in
+            let gone_is : R.device.core.output.counts.discarded ≡ l.discarded = ap (λ (n : Ledger). n.discarded) counts ∙ same_gone in
+            let held_is : R.device.core.output.held ≡ (entered none R.packed l).held = ap (λ (n : Ledger). n.held) counts in
             record {
               grown = omega (arith, gone_is, on.grown);
-              none_lost = ap (λ (k : ℕ). ltb x.engine.core.output.counts.discarded k) gone_is ∙ on.none_lost;
+              none_lost = ap (λ (k : ℕ). ltb x.device.core.output.counts.discarded k) gone_is ∙ on.none_lost;
               more = omega (arith, held_is, more, on.more);
               at = same_at ∙ on.at;
               full = ap (λ (k : ℕ). room k R.buffer) same_at ∙ ap (λ (b : List ℕ). room p b) stays ∙ on.full;
@@ -269,12 +269,12 @@ module _ (x : Two) (stuck : no_room x.engine.core.output x.turns (length x.buffe
       )
 
   abbrev begin : Ran
-  begin = record { engine = placed first_at x.engine; buffer = part u x.buffers }
+  begin = record { device = placed first_at x.device; buffer = part u x.buffers }
 
   begins : run_behind begin ≡ x
   unfolding with_place turns_behind
   begins =
-      let c = x.engine.core.output.counts in
+      let c = x.device.core.output.counts in
       as_before x refl (rw (none_yet c.discarded, none_yet h)) (with_own u x.buffers)
 
   begins_on : On begin
@@ -283,14 +283,14 @@ module _ (x : Two) (stuck : no_room x.engine.core.output x.turns (length x.buffe
       let (held, short) = and_true (not (eqb h 0)) _ stuck in
       record {
         grown = omega arith;
-        none_lost = none_yet x.engine.core.output.counts.discarded;
+        none_lost = none_yet x.device.core.output.counts.discarded;
         more = omega arith;
         at = refl;
         full = rw (← long_part u x.buffers) (lt-leb (4 * first_at + 4) (long u (length x.buffers.a) (length x.buffers.b)) (ltb-true (long u (length x.buffers.a) (length x.buffers.b)) (4 * first_at + 4) short));
       }
 
   -- The law.
-  pub runs_behind : (ws : List ℕ) → Lasts (embedded x.engine.core.capture.registers.cr) x.engine.core.capture ws → two_steps x ws ≡ run_behind (steps (placed first_at x.engine) (part u x.buffers) ws)
+  pub runs_behind : (ws : List ℕ) → Lasts (embedded x.device.core.capture.registers.cr) x.device.core.capture ws → two_steps x ws ≡ run_behind (steps (placed first_at x.device) (part u x.buffers) ws)
   runs_behind ws lasts =
       ap (λ (y : Two). two_steps y ws) (sym begins)
-      ∙ follows x u turns_at place_at same_turns same_place On oldest events begin ws begins_on (lasts_calm (placed first_at x.engine) (part u x.buffers) ws lasts)
+      ∙ follows x u turns_at place_at same_turns same_place On oldest events begin ws begins_on (lasts_calm (placed first_at x.device) (part u x.buffers) ws lasts)

@@ -21,7 +21,7 @@ use Rattle.rules.specs.Capture.{Captured, no_word, working_edge, enabled, rememb
 use Rattle.rules.specs.Sample.{edge, capture_sample}
 use Rattle.laws.proofs.Errors.{no_error_by_pins}
 use Rattle.laws.proofs.FrameEdges.{sync_flags_flagged}
-use Rattle.two_memory_rules.specs.TwoBuffers.{frame_event}
+use Rattle.board_rules.specs.TwoBuffers.{frame_event}
 
 -- No frame is open, and by the pins none starts while VSYNC keeps blanking or not.
 pub record Still (blank : Bool) (s : Capture) : Type 0 where

@@ -14,13 +14,13 @@ use Rattle.output.specs.declared.Fate.TheVariants.{Held, Lost}
 use Rattle.output.specs.Output.{OutputState, offer, Packed}
 use Rattle.rules.specs.declared.Capture.{Capture}
 use Rattle.rules.specs.declared.Core.{Core}
-use Rattle.rules.specs.declared.Engine.{Engine}
+use Rattle.rules.specs.declared.Device.{Device}
 use Rattle.rules.specs.State.{capture_of, is_open, raise, with_registers}
 use Rattle.rules.specs.Capture.{Captured, flagged}
 use Rattle.rules.specs.Sample.{capture_sample}
-use Rattle.rules.specs.Step.{Completed, lose_frame, after_word, complete, after_grant, step}
-use Rattle.two_memory_rules.specs.TwoBuffers.{landing_event, word_event, frame_event, sample_events}
-use Rattle.laws.proofs.TwoKeeps.{keeps_append}
+use Rattle.rules.specs.Run.{Completed, lose_frame, after_word, complete, after_grant, step}
+use Rattle.board_rules.specs.TwoBuffers.{landing_event, word_event, frame_event, sample_events}
+use Rattle.board_laws.proofs.TwoKeeps.{keeps_append}
 use Rattle.two_buffers.specs.Answers.{closing_events, events}
 
 -- Three lists of events in turn; a sample's.
@@ -52,7 +52,7 @@ quiet_either k false ends ends' = quiet k ends ∙ sym (quiet k ends')
 -- Rule 9's word and the end of the frame.
 abbrev Closes : Capture → Captured → Completed → Type 0
 Closes s c r =
-    (k : Kept) → keeps (keeps k (word_event r.packed)) (closing_events c.error (is_open s.frame && not (is_open r.engine.core.capture.frame)))
+    (k : Kept) → keeps (keeps k (word_event r.packed)) (closing_events c.error (is_open s.frame && not (is_open r.device.core.capture.frame)))
     ≡ keeps (keeps k (word_event r.packed)) (frame_event s c)
 
 word_closes : (s : Capture) (f : Fate) (v : ℕ) (c : Captured) (x : OutputState) → Closes s c (after_word f v c x)
@@ -66,14 +66,14 @@ complete_closes s none c x k = rw (same_frame c)
 complete_closes s (some v) c x k = word_closes s (offer v x).fate v c (offer v x).state k
 
 -- A sample's.
-pub closing : (d : Engine) (b : List ℕ) (w : ℕ) (k : Kept)
+pub closing : (d : Device) (b : List ℕ) (w : ℕ) (k : Kept)
     → let r = step d b w in
-    keeps k (events (capture_of d) w r.engine.core r.landing r.packed) ≡ keeps k (sample_events (capture_of d) w r.landing r.packed)
+    keeps k (events (capture_of d) w r.device.core r.landing r.packed) ≡ keeps k (sample_events (capture_of d) w r.landing r.packed)
 unfolding step after_grant events sample_events
 closing d b w k =
     let s = capture_of d in
     let c = capture_sample s w in
     let r = step d b w in
-    in_turn k (landing_event r.landing) (word_event r.packed) (closing_events c.error (is_open s.frame && not (is_open r.engine.core.capture.frame)))
+    in_turn k (landing_event r.landing) (word_event r.packed) (closing_events c.error (is_open s.frame && not (is_open r.device.core.capture.frame)))
     ∙ complete_closes s c.word c _ (keeps k (landing_event r.landing))
     ∙ sym (in_turn k (landing_event r.landing) (word_event r.packed) (frame_event s c))

@@ -14,7 +14,7 @@ use Rattle.output.specs.declared.Counts.{Counts}
 use Rattle.output.specs.Output.{Packed, nothing, completed, lost}
 use Rattle.output.specs.Ledger.{Ledger, sample_entry, landing_entry}
 use Rattle.laws.specs.Ledger.{word_entry}
-use Rattle.two_memory_rules.specs.TwoBuffers.{landing_event, word_event}
+use Rattle.board_rules.specs.TwoBuffers.{landing_event, word_event}
 use Rattle.two_buffers.specs.Stretches.{next_buffer, Done}
 use Rattle.two_buffers.proofs.Doing.{doing, keeping, Going, landing_on, held_on, lost_on}
 use Rattle.two_buffers.proofs.Idle.{place_after}

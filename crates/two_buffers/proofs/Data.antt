@@ -13,15 +13,15 @@ use Rattle.rules.specs.declared.Scan.{Scan}
 use Rattle.rules.specs.declared.Frame.{Frame}
 use Rattle.rules.specs.declared.Frame.TheVariants.{Closed, Open}
 use Rattle.rules.specs.declared.Capture.{Capture}
-use Rattle.rules.specs.declared.Engine.{Engine}
+use Rattle.rules.specs.declared.Device.{Device}
 use Rattle.rules.specs.State.{is_open, with_pins, with_frame, with_waiting}
 use Rattle.rules.specs.Capture.{Captured, no_word, working_edge, enabled, remember_pins}
 use Rattle.rules.specs.Codes.{arrived, each_datum, byte_in, at_byte}
 use Rattle.rules.specs.Sample.{byte_of, edge, capture_sample}
 use Rattle.output.specs.Output.{nothing}
-use Rattle.rules.specs.Step.{after_grant, step}
+use Rattle.rules.specs.Run.{after_grant, step}
 use Rattle.laws.proofs.FrameCodes.{each_same}
-use Rattle.two_memory_rules.specs.TwoBuffers.{frame_event}
+use Rattle.board_rules.specs.TwoBuffers.{frame_event}
 use Rattle.two_buffers.proofs.Calm.{no_event}
 use Rattle.two_buffers.proofs.Idle.{complete_still}
 
@@ -73,8 +73,8 @@ module _ (s : Capture) (w : ℕ) (coded : embedded s.registers.cr ≡ true) (non
       (rw plain (closed_byte s.frame (remember_pins w s) (byte_of w) closed closed))
       (refl, closed))
 
-pub closed_step : (d : Engine) (b : List ℕ) (w : ℕ) → embedded d.core.capture.registers.cr ≡ true → d.core.capture.waiting ≡ Zero → d.core.capture.frame ≡ Closed
-    → ((step d b w).packed ≡ nothing) × ((step d b w).engine.core.capture.frame ≡ Closed)
+pub closed_step : (d : Device) (b : List ℕ) (w : ℕ) → embedded d.core.capture.registers.cr ≡ true → d.core.capture.waiting ≡ Zero → d.core.capture.frame ≡ Closed
+    → ((step d b w).packed ≡ nothing) × ((step d b w).device.core.capture.frame ≡ Closed)
 unfolding step after_grant
 closed_step d b w coded none_waits closed =
     let s = d.core.capture in

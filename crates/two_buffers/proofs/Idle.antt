@@ -16,12 +16,12 @@ use Rattle.output.specs.declared.Fate.TheVariants.{Held, Lost}
 use Rattle.output.specs.Output.{OutputState, contents, push, with_held, holding, with_counts, with_place, count_sample, count_word, count_discarded, count_landed, room, Granted, no_landing, lands, oldest_lands, grant, Offered, offer, discard, nothing, lost, counted}
 use Rattle.rules.specs.declared.Capture.{Capture}
 use Rattle.rules.specs.declared.Frame.TheVariants.{Closed}
-use Rattle.rules.specs.declared.Engine.{Engine}
+use Rattle.rules.specs.declared.Device.{Device}
 use Rattle.rules.specs.State.{capture_of, output_of, raise, clear_capture, close_frame, with_registers, with_frame, with_partial}
 use Rattle.rules.specs.Capture.{Captured, flagged}
 use Rattle.rules.specs.Sample.{capture_sample}
-use Rattle.rules.specs.Effects.{placed}
-use Rattle.rules.specs.Step.{Completed, lose_frame, after_word, complete, after_grant, step}
+use Rattle.rules.specs.RegisterCalls.{placed}
+use Rattle.rules.specs.Run.{Completed, lose_frame, after_word, complete, after_grant, step}
 use Rattle.laws.proofs.KeepsSample.{by_word}
 use Rattle.two_buffers.proofs.Calm.{Still, still_sample, word_calms}
 
@@ -46,11 +46,11 @@ offer_place : (v : ℕ) (x : OutputState) → (offer v x).state.output.place ≡
 unfolding offer holding with_held count_word with_counts
 offer_place v x = either (λ (r : Offered). r.state.output.place ≡ x.output.place) (ltb x.output.held x.output.depth) refl refl
 
-complete_place : (o : Option ℕ) (c : Captured) (x : OutputState) → (complete o c x).engine.core.output.place ≡ x.output.place
+complete_place : (o : Option ℕ) (c : Captured) (x : OutputState) → (complete o c x).device.core.output.place ≡ x.output.place
 unfolding discard holding with_held count_discarded with_counts
-complete_place o c x = by_word (λ (d : Engine). d.core.output.place ≡ x.output.place) o c x refl (λ e. refl) (λ v. offer_place v x) (λ v. offer_place v x)
+complete_place o c x = by_word (λ (d : Device). d.core.output.place ≡ x.output.place) o c x refl (λ e. refl) (λ v. offer_place v x) (λ v. offer_place v x)
 
-pub step_place : (d : Engine) (b : List ℕ) (w : ℕ) → (step d b w).engine.core.output.place ≡ place_after (step d b w).landing d.core.output.place
+pub step_place : (d : Device) (b : List ℕ) (w : ℕ) → (step d b w).device.core.output.place ≡ place_after (step d b w).landing d.core.output.place
 unfolding step after_grant counted count_sample with_counts Placed
 step_place d b w = complete_place _ _ _ ∙ grant_place (bus_grant w) (enable d.core.capture.registers.cr) (counted (output_of d)) b
 
@@ -75,7 +75,7 @@ abbrev placed_output : ℕ → OutputState → OutputState
 placed_output q x = record { output = with_place q x.output; slots = x.slots }
 
 word_placed : (v q : ℕ) (c : Captured) (x : OutputState)
-    → complete (some v) c (placed_output q x) ≡ record { engine = placed q (complete (some v) c x).engine; packed = (complete (some v) c x).packed }
+    → complete (some v) c (placed_output q x) ≡ record { device = placed q (complete (some v) c x).device; packed = (complete (some v) c x).packed }
 unfolding complete offer after_word holding with_held with_place contents count_word count_discarded with_counts discard
 word_placed v q c x = go (ltb x.output.held x.output.depth)
   where
@@ -88,37 +88,37 @@ word_placed v q c x = go (ltb x.output.held x.output.depth)
     gone : OutputState → Offered
     gone y = record { state = record { output = count_word y.output; slots = y.slots }; fate = Lost }
 
-    go : (b : Bool) → let y = placed_output q x in word (cond b (held y) (gone y)) ≡ record { engine = placed q (word (cond b (held x) (gone x))).engine; packed = (word (cond b (held x) (gone x))).packed }
+    go : (b : Bool) → let y = placed_output q x in word (cond b (held y) (gone y)) ≡ record { device = placed q (word (cond b (held x) (gone x))).device; packed = (word (cond b (held x) (gone x))).packed }
     go true = refl
     go false = refl
 
 complete_placed : (o : Option ℕ) (q : ℕ) (c : Captured) (x : OutputState)
-    → complete o c (placed_output q x) ≡ record { engine = placed q (complete o c x).engine; packed = (complete o c x).packed }
+    → complete o c (placed_output q x) ≡ record { device = placed q (complete o c x).device; packed = (complete o c x).packed }
 unfolding complete holding with_held with_place count_discarded with_counts discard
 complete_placed none q c x = go c.error
   where
-    go : (b : Bool) → let y = placed_output q x in ◌≡◌ {A = Completed} (record { engine = record { core = record { capture = flagged c; output = (cond b (discard 0 y) y).output }; slots = (cond b (discard 0 y) y).slots }; packed = nothing })
-        (record { engine = placed q (record { core = record { capture = flagged c; output = (cond b (discard 0 x) x).output }; slots = (cond b (discard 0 x) x).slots }); packed = nothing })
+    go : (b : Bool) → let y = placed_output q x in ◌≡◌ {A = Completed} (record { device = record { core = record { capture = flagged c; output = (cond b (discard 0 y) y).output }; slots = (cond b (discard 0 y) y).slots }; packed = nothing })
+        (record { device = placed q (record { core = record { capture = flagged c; output = (cond b (discard 0 x) x).output }; slots = (cond b (discard 0 x) x).slots }); packed = nothing })
     go true = refl
     go false = refl
 complete_placed (some v) q c x = word_placed v q c x
 
-pub idle_landing : (d : Engine) (b : List ℕ) (w : ℕ) → d.core.output.held ≡ 0 → ((step d b w).landing ≡ none) × ((step d b w).buffer ≡ b)
+pub idle_landing : (d : Device) (b : List ℕ) (w : ℕ) → d.core.output.held ≡ 0 → ((step d b w).landing ≡ none) × ((step d b w).buffer ≡ b)
 unfolding step counted count_sample with_counts no_landing
 idle_landing d b w e = rw (grant_idle (bus_grant w) (enable d.core.capture.registers.cr) (counted (output_of d)) b e) (refl, refl)
 
-pub full_landing : (d : Engine) (b : List ℕ) (w : ℕ) → room d.core.output.place b ≡ false → ((step d b w).landing ≡ none) × ((step d b w).buffer ≡ b)
+pub full_landing : (d : Device) (b : List ℕ) (w : ℕ) → room d.core.output.place b ≡ false → ((step d b w).landing ≡ none) × ((step d b w).buffer ≡ b)
 unfolding step counted count_sample with_counts no_landing
 full_landing d b w e = rw (grant_full (bus_grant w) (enable d.core.capture.registers.cr) (counted (output_of d)) b e) (refl, refl)
 
-pub idle_step : (d : Engine) (b b' : List ℕ) (w q : ℕ) → d.core.output.held ≡ 0
-    → step (placed q d) b w ≡ record { engine = placed q (step d b' w).engine; buffer = b; landing = none; packed = (step d b' w).packed }
+pub idle_step : (d : Device) (b b' : List ℕ) (w q : ℕ) → d.core.output.held ≡ 0
+    → step (placed q d) b w ≡ record { device = placed q (step d b' w).device; buffer = b; landing = none; packed = (step d b' w).packed }
 unfolding step after_grant counted count_sample with_counts no_landing with_place
 idle_step d b b' w q e =
     let s = capture_of d in
     let on = enable s.registers.cr in
     rw (grant_idle (bus_grant w) on (counted (output_of (placed q d))) b e, grant_idle (bus_grant w) on (counted (output_of d)) b' e)
-    (ap (λ (r : Completed). record { engine = r.engine; buffer = b; landing = none; packed = r.packed }) (complete_placed (capture_sample s w).word q (capture_sample s w) (counted (output_of d))))
+    (ap (λ (r : Completed). record { device = r.device; buffer = b; landing = none; packed = r.packed }) (complete_placed (capture_sample s w).word q (capture_sample s w) (counted (output_of d))))
 
 -- A sample while no frame is open and none starts.
 flagged_still : (blank : Bool) (c : Captured) → Still blank c.state → Still blank (flagged c)
@@ -126,13 +126,13 @@ unfolding flagged raise with_registers
 flagged_still blank c still = either (Still blank) c.due (record { closed = still.closed; none_starts = still.none_starts }) still
 
 pub complete_still : (blank : Bool) (o : Option ℕ) (c : Captured) (x : OutputState) → o ≡ none → Still blank c.state
-    → ((complete o c x).packed ≡ nothing) × Still blank (complete o c x).engine.core.capture
+    → ((complete o c x).packed ≡ nothing) × Still blank (complete o c x).device.core.capture
 unfolding complete
 complete_still blank o c x e still = rw e (refl, flagged_still blank c still)
 
-module _ (blank : Bool) (d : Engine) (b : List ℕ) (w : ℕ) (plain : embedded d.core.capture.registers.cr ≡ false)
+module _ (blank : Bool) (d : Device) (b : List ℕ) (w : ℕ) (plain : embedded d.core.capture.registers.cr ≡ false)
     (level : beq (vsync_pin w) (vspol d.core.capture.registers.cr) ≡ blank) where
-  pub still_step : Still blank d.core.capture → ((step d b w).packed ≡ nothing) × Still blank (step d b w).engine.core.capture
+  pub still_step : Still blank d.core.capture → ((step d b w).packed ≡ nothing) × Still blank (step d b w).device.core.capture
   unfolding step after_grant
   still_step still =
       let (none_comes, after) = still_sample blank d.core.capture w plain level still in
@@ -146,23 +146,23 @@ lose_still s e =
     record { closed = refl; none_starts = and_unit _ ∙ same }
 
 complete_lost : (P : Capture → Type 0) (o : Option ℕ) (c : Captured) (x : OutputState) → ((v : ℕ) → o ≡ some v → P (lose_frame c.state)) → (complete o c x).packed ≡ lost
-    → P (complete o c x).engine.core.capture
+    → P (complete o c x).device.core.capture
 unfolding complete after_word
 complete_lost P none c x calm e = let z : ◌≡◌ {A = ℕ} 0 1 = cc in absurd (omega arith)
 complete_lost P (some v) c x calm e = go (offer v x).fate e
   where
-    go : (f : Fate) → (after_word f v c (offer v x).state).packed ≡ lost → P (after_word f v c (offer v x).state).engine.core.capture
+    go : (f : Fate) → (after_word f v c (offer v x).state).packed ≡ lost → P (after_word f v c (offer v x).state).device.core.capture
     go Held e = let z : ◌≡◌ {A = ℕ} 0 1 = cc in absurd (omega arith)
     go Lost e = calm v refl
 
-pub lost_still : (d : Engine) (b : List ℕ) (w : ℕ) → embedded d.core.capture.registers.cr ≡ false → beq (vsync_pin w) (vspol d.core.capture.registers.cr) ≡ false
-    → (step d b w).packed ≡ lost → Still false (step d b w).engine.core.capture
+pub lost_still : (d : Device) (b : List ℕ) (w : ℕ) → embedded d.core.capture.registers.cr ≡ false → beq (vsync_pin w) (vspol d.core.capture.registers.cr) ≡ false
+    → (step d b w).packed ≡ lost → Still false (step d b w).device.core.capture
 unfolding step after_grant
 lost_still d b w plain level e =
     let s = d.core.capture in
     complete_lost (Still false) (capture_sample s w).word (capture_sample s w) _ (λ v is. lose_still (capture_sample s w).state (word_calms false s w plain level v is)) e
 
-pub lost_closed : (d : Engine) (b : List ℕ) (w : ℕ) → (step d b w).packed ≡ lost → (step d b w).engine.core.capture.frame ≡ Closed
+pub lost_closed : (d : Device) (b : List ℕ) (w : ℕ) → (step d b w).packed ≡ lost → (step d b w).device.core.capture.frame ≡ Closed
 unfolding step after_grant lose_frame close_frame with_partial with_frame
 lost_closed d b w e =
     let s = d.core.capture in complete_lost (λ (t : Capture). t.frame ≡ Closed) (capture_sample s w).word (capture_sample s w) _ (λ v is. refl) e

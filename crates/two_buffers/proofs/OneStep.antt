@@ -1,4 +1,4 @@
--- A sample with two frame buffers: what the calls in it ask, of a well-formed engine and turns that fit it; and the sample from what the inner one leaves and answers. Assumes nothing.
+-- A sample with two frame buffers: what the calls in it ask, of a well-formed device and turns that fit it; and the sample from what the inner one leaves and answers. Assumes nothing.
 use mathlib.Core.Bool.{Bool, true, false, not, ◌&&◌}
 use mathlib.Core.List.{List, [], ◌∷◌, ◌++◌}
 use mathlib.Core.Option.{Option, none, some}
@@ -16,21 +16,21 @@ use Rattle.output.specs.Output.{OutputState, contents, with_place, Packed, compl
 use Rattle.output.specs.WellFormed.{Laid}
 use Rattle.rules.specs.declared.Capture.{Capture}
 use Rattle.rules.specs.declared.Core.{Core}
-use Rattle.rules.specs.declared.Engine.{Engine}
+use Rattle.rules.specs.declared.Device.{Device}
 use Rattle.rules.specs.State.{capture_of, output_of, is_open}
 use Rattle.rules.specs.Capture.{Captured}
 use Rattle.rules.specs.Sample.{capture_sample}
-use Rattle.rules.specs.Effects as effects
-use Rattle.rules.specs.Step.{complete, after_grant, Stepped, step}
+use Rattle.rules.specs.RegisterCalls as register_rules
+use Rattle.rules.specs.Run.{complete, after_grant, Stepped, step}
 use Rattle.rules.proofs.WellFormed.{WellFormed}
 use Rattle.output.specs.Ledger.{numbers}
 use Rattle.laws.proofs.Errors.{no_word_in_error}
 use Rattle.laws.proofs.KeepsSample.{step_laid}
-use Rattle.rules.specs.Device.{kept_of}
-use Rattle.two_memory_rules.specs.TwoBuffers.{landing_event, word_event, frame_event, sample_events, Pair, part, with_part, landing_in, Two, TwoStepped, two_step}
-use Rattle.rules.proofs.DeviceFacts.{TurnsOk}
+use Rattle.board_rules.specs.State.{kept_of}
+use Rattle.board_rules.specs.TwoBuffers.{landing_event, word_event, frame_event, sample_events, Pair, part, with_part, landing_in, Two, TwoStepped, two_step}
+use Rattle.board_rules.proofs.WellFormed.{TurnsOk}
 use Rattle.laws.proofs.KeepsWrites.{placed_ok}
-use Rattle.laws.proofs.TwoKeeps.{keeps_append, two_step_held, Within, oldest_at_most, landing_within}
+use Rattle.board_laws.proofs.TwoKeeps.{keeps_append, two_step_held, Within, oldest_at_most, landing_within}
 use Rattle.fifo.specs.Notes.{noted_landing, noted_packing}
 use Rattle.sampling.specs.Notes.{Noted, noted_steps}
 use Rattle.sampling.specs.Answers.{noted}
@@ -38,9 +38,9 @@ use Rattle.sampling.proofs.Noted.{one_sample}
 use Rattle.two_buffers.specs.Answers.{TagsFit, events, placed}
 use Rattle.two_buffers.proofs.Closing.{closing}
 
--- The engine of the inner sample, and that sample.
-abbrev pub found : Two → Engine
-found x = effects.placed (oldest_place x.engine.core.output.place x.turns) x.engine
+-- The device of the inner sample, and that sample.
+abbrev pub found : Two → Device
+found x = register_rules.placed (oldest_place x.device.core.output.place x.turns) x.device
 
 abbrev pub inner : Two → ℕ → Stepped
 inner x w = step (found x) (part (oldest_buffer x.turns) x.buffers) w
@@ -55,7 +55,7 @@ quiet (some v') c x v alone e = go c.error refl
     go false is = is
     go true is = let n = alone is in let z : ◌≡◌ {A = ℕ} 0 1 = cc in absurd (omega arith)
 
-completed_quiet : (d : Engine) (b : List ℕ) (w v : ℕ) → (step d b w).packed ≡ completed v → (capture_sample (capture_of d) w).error ≡ false
+completed_quiet : (d : Device) (b : List ℕ) (w v : ℕ) → (step d b w).packed ≡ completed v → (capture_sample (capture_of d) w).error ≡ false
 unfolding step after_grant
 completed_quiet d b w v e = quiet _ (capture_sample (capture_of d) w) _ v (no_word_in_error (capture_of d) w) e
 
@@ -79,53 +79,53 @@ bit_fits h x lt e =
     omega (arith, twice, pow_mono {i = h + 1} {j = 32} (omega arith))
 
 -- Another place leaves the FIFO.
-pub placed_laid : (k : ℕ) (d : Engine) → Laid (output_of d) → Laid (output_of (effects.placed k d))
+pub placed_laid : (k : ℕ) (d : Device) → Laid (output_of d) → Laid (output_of (register_rules.placed k d))
 unfolding contents with_place
 placed_laid k d laid = record { fits = laid.fits; within = laid.within; slots = laid.slots }
 
-module _ (x : Two) (well : WellFormed x.engine) (turns : TurnsOk x.engine.core.output x.turns) (laid : Laid (output_of x.engine)) where
-  within : Within (numbers x.engine.core.output) (kept_of x.engine x.turns)
+module _ (x : Two) (well : WellFormed x.device) (turns : TurnsOk x.device.core.output x.turns) (laid : Laid (output_of x.device)) where
+  within : Within (numbers x.device.core.output) (kept_of x.device x.turns)
   within = record { turns = record { buffers = turns.buffers; opening = turns.opening; place = turns.place }; place = well.output.place }
 
-  oldest_low : oldest_place x.engine.core.output.place x.turns ≤ x.engine.core.output.counts.landed
+  oldest_low : oldest_place x.device.core.output.place x.turns ≤ x.device.core.output.counts.landed
   oldest_low = oldest_at_most _ _ x.turns within.place within.turns.place
 
   pub asks_well : WellFormed (found x)
-  asks_well = placed_ok _ x.engine oldest_low well
+  asks_well = placed_ok _ x.device oldest_low well
 
   pub asks_laid : Laid (output_of (found x))
-  asks_laid = placed_laid _ x.engine laid
+  asks_laid = placed_laid _ x.device laid
 
-  pub asks_place : x.engine.core.output.counts.samples + 1 < 2 ^ 32 → oldest_place x.engine.core.output.place x.turns + 1 < 2 ^ 32
+  pub asks_place : x.device.core.output.counts.samples + 1 < 2 ^ 32 → oldest_place x.device.core.output.place x.turns + 1 < 2 ^ 32
   asks_place fits = omega (arith, oldest_low, well.output.equation, well.output.completed)
 
-  pub asks_tags : (w v : ℕ) → (inner x w).packed ≡ completed v → TagsFit (keeps (kept_of x.engine x.turns) (landing_event (inner x w).landing))
+  pub asks_tags : (w v : ℕ) → (inner x w).packed ≡ completed v → TagsFit (keeps (kept_of x.device x.turns) (landing_event (inner x w).landing))
   unfolding two_step with_place
   asks_tags w v e =
       let b = part (oldest_buffer x.turns) x.buffers in
-      let k = kept_of x.engine x.turns in
+      let k = kept_of x.device x.turns in
       let k₁ = keeps k (landing_event (inner x w).landing) in
       let after = step_laid (found x) b w asks_laid in
-      let more = two_step_held x w ∙ held_more k (capture_of x.engine) w (inner x w).landing v e (completed_quiet (found x) b w v e) in
+      let more = two_step_held x w ∙ held_more k (capture_of x.device) w (inner x w).landing v e (completed_quiet (found x) b w v e) in
       let low : k₁.held < 32 = omega (arith, after.fits, after.within, more) in
-      let fits = (landing_within (inner x w).landing (numbers x.engine.core.output) k within).turns in
+      let fits = (landing_within (inner x w).landing (numbers x.device.core.output) k within).turns in
       record { held = low; buffers = bit_fits k₁.held _ low fits.buffers; opening = bit_fits k₁.held _ low fits.opening }
 
 -- What the inner sample leaves and answers, from the notes of a run of one.
 pub answers : (x : Two) (w : ℕ) {u : Buffer} {place : ℕ} {first : Core} (n : Noted) {l : Option ℕ} {p : Packed} → u ≡ oldest_buffer x.turns
-    → place ≡ oldest_place x.engine.core.output.place x.turns → first ≡ placed place x.engine.core
-    → n ≡ noted_steps (noted first x.engine.slots (part u x.buffers) (0 ∷ 0 ∷ []) (0 ∷ 0 ∷ [])) (w ∷ []) → l ≡ noted_landing n.landings → p ≡ noted_packing n.words
-    → ◌≡◌ {A = Stepped} (record { engine = n.engine; buffer = n.buffer; landing = l; packed = p }) (inner x w)
+    → place ≡ oldest_place x.device.core.output.place x.turns → first ≡ placed place x.device.core
+    → n ≡ noted_steps (noted first x.device.slots (part u x.buffers) (0 ∷ 0 ∷ []) (0 ∷ 0 ∷ [])) (w ∷ []) → l ≡ noted_landing n.landings → p ≡ noted_packing n.words
+    → ◌≡◌ {A = Stepped} (record { device = n.device; buffer = n.buffer; landing = l; packed = p }) (inner x w)
 unfolding placed
 answers x w n eu ep ef en el ew = rw (el, ew) (one_sample (found x) (part (oldest_buffer x.turns) x.buffers) w (rw (ef, ep, eu) at en))
 
 -- The sample, from that.
 abbrev made : Buffer → Kept → Stepped → Pair → TwoStepped
 made u k r m =
-    record { after = record { engine = effects.placed k.place_a r.engine; turns = k.turns; buffers = m }; landing = landing_in u r.landing; packed = r.packed }
+    record { after = record { device = register_rules.placed k.place_a r.device; turns = k.turns; buffers = m }; landing = landing_in u r.landing; packed = r.packed }
 
 abbrev kept_by : Two → ℕ → Stepped → Kept
-kept_by x w r = keeps (kept_of x.engine x.turns) (events (capture_of x.engine) w r.engine.core r.landing r.packed)
+kept_by x w r = keeps (kept_of x.device x.turns) (events (capture_of x.device) w r.device.core r.landing r.packed)
 
 pub one_step : (x : Two) (w : ℕ) (u : Buffer) (r : Stepped) (m : Pair) → u ≡ oldest_buffer x.turns → r ≡ inner x w → m ≡ with_part u r.buffer x.buffers
     → made u (kept_by x w r) r m ≡ two_step x w
@@ -136,4 +136,4 @@ one_step x w u r m eu er em =
     ap (λ (z : Pair). made u (kept_by x w r) r z) em
     ∙ ap (λ (z : Buffer). made z (kept_by x w r) r (with_part z r.buffer x.buffers)) eu
     ∙ ap (λ (z : Stepped). made o (kept_by x w z) z (with_part o z.buffer x.buffers)) er
-    ∙ ap (λ (k : Kept). made o k (inner x w) (with_part o (inner x w).buffer x.buffers)) (closing (found x) b w (kept_of x.engine x.turns))
+    ∙ ap (λ (k : Kept). made o k (inner x w) (with_part o (inner x w).buffer x.buffers)) (closing (found x) b w (kept_of x.device x.turns))

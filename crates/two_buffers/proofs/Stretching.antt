@@ -21,14 +21,14 @@ use Rattle.output.specs.declared.Output.{Output}
 use Rattle.output.specs.WellFormed.{Laid}
 use Rattle.rules.specs.declared.Capture.{Capture}
 use Rattle.rules.specs.declared.Core.{Core}
-use Rattle.rules.specs.declared.Engine.{Engine}
+use Rattle.rules.specs.declared.Device.{Device}
 use Rattle.rules.specs.State.{output_of, is_open}
-use Rattle.rules.specs.Effects as effects
-use Rattle.rules.specs.Step.{step, Ran, steps}
+use Rattle.rules.specs.RegisterCalls as register_rules
+use Rattle.rules.specs.Run.{step, Ran, steps}
 use Rattle.rules.proofs.WellFormed.{WellFormed}
 use Rattle.laws.proofs.KeepsSample.{step_laid}
-use Rattle.two_memory_rules.specs.TwoBuffers.{Pair, part, with_part, Two, two_steps}
-use Rattle.rules.proofs.DeviceFacts.{TurnsOk}
+use Rattle.board_rules.specs.TwoBuffers.{Pair, part, with_part, Two, two_steps}
+use Rattle.board_rules.proofs.WellFormed.{TurnsOk}
 use Rattle.laws.proofs.KeepsWrites.{placed_ok}
 use Rattle.sampling.specs.DataBytes.{data_run}
 use Rattle.sampling.specs.Notes.{Noted, noted_steps}
@@ -42,10 +42,10 @@ use Rattle.two_buffers.proofs.RunningOn.{run_on, runs_on}
 use Rattle.two_buffers.proofs.Behind.{run_behind, runs_behind}
 
 -- The FIFO stays laid out.
-steps_laid : (d : Engine) (b ws : List ℕ) → Laid (output_of d) → Laid (output_of (steps d b ws).engine)
+steps_laid : (d : Device) (b ws : List ℕ) → Laid (output_of d) → Laid (output_of (steps d b ws).device)
 unfolding steps
 steps_laid d b [] laid = laid
-steps_laid d b (w ∷ ws) laid = steps_laid (step d b w).engine (step d b w).buffer ws (step_laid d b w laid)
+steps_laid d b (w ∷ ws) laid = steps_laid (step d b w).device (step d b w).buffer ws (step_laid d b w laid)
 
 -- The place of the first word is at most landed.
 first_low : (held a n : ℕ) (t : Turns) → a ≤ n → t.place ≤ n → first_place held a t ≤ n
@@ -57,44 +57,44 @@ first_low held a n t la lb = either (λ (k : ℕ). k ≤ n) (first_opens held t)
     go B = lb
 
 -- What the run over a buffer, from a place on, leaves.
-module _ (x : Two) (laid : Laid (output_of x.engine)) (ws : List ℕ) {u u₀ : Buffer} {place p₀ : ℕ} {first : Core} (l v : List ℕ) (n : Noted) (eu : u ≡ u₀) (ep : place ≡ p₀)
-    (ef : first ≡ placed place x.engine.core) (en : n ≡ noted_steps (noted first x.engine.slots (part u x.buffers) l v) ws) where
-  ran : ◌≡◌ {A = Ran} (record { engine = n.engine; buffer = n.buffer }) (steps (effects.placed p₀ x.engine) (part u₀ x.buffers) ws)
+module _ (x : Two) (laid : Laid (output_of x.device)) (ws : List ℕ) {u u₀ : Buffer} {place p₀ : ℕ} {first : Core} (l v : List ℕ) (n : Noted) (eu : u ≡ u₀) (ep : place ≡ p₀)
+    (ef : first ≡ placed place x.device.core) (en : n ≡ noted_steps (noted first x.device.slots (part u x.buffers) l v) ws) where
+  ran : ◌≡◌ {A = Ran} (record { device = n.device; buffer = n.buffer }) (steps (register_rules.placed p₀ x.device) (part u₀ x.buffers) ws)
   unfolding placed
-  ran = ap (λ (m : Noted). record { engine = m.engine; buffer = m.buffer }) (rw (ef, ep, eu) at en) ∙ same_run _ ws
+  ran = ap (λ (m : Noted). record { device = m.device; buffer = m.buffer }) (rw (ef, ep, eu) at en) ∙ same_run _ ws
 
-  pub run_held : n.engine.core.output.held ≤ 32
+  pub run_held : n.device.core.output.held ≤ 32
   run_held =
-      let after = steps_laid (effects.placed p₀ x.engine) (part u₀ x.buffers) ws (placed_laid _ x.engine laid) in
-      rw (ap (λ (r : Ran). r.engine) ran) (omega (arith, after.fits, after.within))
+      let after = steps_laid (register_rules.placed p₀ x.device) (part u₀ x.buffers) ws (placed_laid _ x.device laid) in
+      rw (ap (λ (r : Ran). r.device) ran) (omega (arith, after.fits, after.within))
 
 -- What the two runs ask, and what they leave.
-module _ (x : Two) (well : WellFormed x.engine) (turns : TurnsOk x.engine.core.output x.turns) (laid : Laid (output_of x.engine)) where
-  abbrev from : Engine
-  from = effects.placed (first_place x.engine.core.output.held x.engine.core.output.place x.turns) x.engine
+module _ (x : Two) (well : WellFormed x.device) (turns : TurnsOk x.device.core.output x.turns) (laid : Laid (output_of x.device)) where
+  abbrev from : Device
+  from = register_rules.placed (first_place x.device.core.output.held x.device.core.output.place x.turns) x.device
 
   pub run_well : WellFormed from
-  run_well = placed_ok _ x.engine (first_low x.engine.core.output.held x.engine.core.output.place _ x.turns well.output.place turns.place) well
+  run_well = placed_ok _ x.device (first_low x.device.core.output.held x.device.core.output.place _ x.turns well.output.place turns.place) well
 
   pub run_laid : Laid (output_of from)
-  run_laid = placed_laid _ x.engine laid
+  run_laid = placed_laid _ x.device laid
 
-  module _ (ws : List ℕ) (lasts : Lasts (embedded x.engine.core.capture.registers.cr) x.engine.core.capture ws) {u : Buffer} {place : ℕ} {first : Core} (l v : List ℕ) (n : Noted) where
-    pub stretch_run : {t : Turns} {a : ℕ} (m : Pair) → alone x.engine.core.output.held x.turns ≡ true → (eu : u ≡ next_buffer x.turns)
-        → (ep : place ≡ first_place x.engine.core.output.held x.engine.core.output.place x.turns) → (ef : first ≡ placed place x.engine.core)
-        → (en : n ≡ noted_steps (noted first x.engine.slots (part u x.buffers) l v) ws) → m ≡ with_part u n.buffer x.buffers
-        → t ≡ turns_after x.turns x.engine.core.output.held x.engine.core.output.counts n.engine.core.output
-        → a ≡ place_a u (ltb x.engine.core.output.counts.landed n.engine.core.output.counts.landed) n.engine.core.output.place x.engine.core.output.place
-        → ◌≡◌ {A = Two} (record { engine = effects.placed a n.engine; turns = t; buffers = m }) (two_steps x ws)
+  module _ (ws : List ℕ) (lasts : Lasts (embedded x.device.core.capture.registers.cr) x.device.core.capture ws) {u : Buffer} {place : ℕ} {first : Core} (l v : List ℕ) (n : Noted) where
+    pub stretch_run : {t : Turns} {a : ℕ} (m : Pair) → alone x.device.core.output.held x.turns ≡ true → (eu : u ≡ next_buffer x.turns)
+        → (ep : place ≡ first_place x.device.core.output.held x.device.core.output.place x.turns) → (ef : first ≡ placed place x.device.core)
+        → (en : n ≡ noted_steps (noted first x.device.slots (part u x.buffers) l v) ws) → m ≡ with_part u n.buffer x.buffers
+        → t ≡ turns_after x.turns x.device.core.output.held x.device.core.output.counts n.device.core.output
+        → a ≡ place_a u (ltb x.device.core.output.counts.landed n.device.core.output.counts.landed) n.device.core.output.place x.device.core.output.place
+        → ◌≡◌ {A = Two} (record { device = register_rules.placed a n.device; turns = t; buffers = m }) (two_steps x ws)
     unfolding turns_after
     stretch_run m single eu ep ef en em et ea =
         rw (em, et, ea, eu) (ap (λ (r : Ran). run_on x single r) (ran x laid ws l v n eu ep ef en) ∙ sym (runs_on x single turns ws lasts))
 
-    pub behind_run : {t : Turns} (m : Pair) → no_room x.engine.core.output x.turns (length x.buffers.a) (length x.buffers.b) ≡ true → (eu : u ≡ oldest_buffer x.turns)
-        → (ep : place ≡ oldest_place x.engine.core.output.place x.turns) → (ef : first ≡ placed place x.engine.core)
-        → (en : n ≡ noted_steps (noted first x.engine.slots (part u x.buffers) l v) ws) → m ≡ with_part u n.buffer x.buffers
-        → t ≡ turns_behind x.engine.core.output.held (ltb x.engine.core.output.counts.discarded n.engine.core.output.counts.discarded) n.engine.core.output.held x.turns
-        → ◌≡◌ {A = Two} (record { engine = effects.placed x.engine.core.output.place n.engine; turns = t; buffers = m }) (two_steps x ws)
+    pub behind_run : {t : Turns} (m : Pair) → no_room x.device.core.output x.turns (length x.buffers.a) (length x.buffers.b) ≡ true → (eu : u ≡ oldest_buffer x.turns)
+        → (ep : place ≡ oldest_place x.device.core.output.place x.turns) → (ef : first ≡ placed place x.device.core)
+        → (en : n ≡ noted_steps (noted first x.device.slots (part u x.buffers) l v) ws) → m ≡ with_part u n.buffer x.buffers
+        → t ≡ turns_behind x.device.core.output.held (ltb x.device.core.output.counts.discarded n.device.core.output.counts.discarded) n.device.core.output.held x.turns
+        → ◌≡◌ {A = Two} (record { device = register_rules.placed x.device.core.output.place n.device; turns = t; buffers = m }) (two_steps x ws)
     behind_run m stuck eu ep ef en em et =
         rw (em, et, eu) (ap (λ (r : Ran). run_behind x stuck r) (ran x laid ws l v n eu ep ef en) ∙ sym (runs_behind x stuck ws lasts))
 

@@ -1,4 +1,4 @@
--- The loop over some samples with two frame buffers: what is left of them leads from the present engine, turns and buffers to the same end as all of them from the first.
+-- The loop over some samples with two frame buffers: what is left of them leads from the present device, turns and buffers to the same end as all of them from the first.
 -- The idea: one step takes the head of what is left, a stretch some of it. Assumes nothing.
 use mathlib.Core.List.{List, [], ◌∷◌, ◌++◌}
 use mathlib.Core.Path.{◌≡◌, refl, sym, ap, ◌∙◌}
@@ -13,18 +13,18 @@ use Rattle.output.specs.WellFormed.{Laid}
 use Rattle.rules.specs.State.{output_of}
 use Rattle.rules.proofs.WellFormed.{WellFormed}
 use Rattle.laws.proofs.KeepsSample.{step_laid, step_samples}
-use Rattle.two_memory_rules.specs.TwoBuffers.{part, Two, TwoStepped, two_step, two_steps}
-use Rattle.rules.proofs.DeviceFacts.{TurnsOk}
-use Rattle.laws.proofs.TwoKeeps.{two_step_keeps, two_steps_keep}
+use Rattle.board_rules.specs.TwoBuffers.{part, Two, TwoStepped, two_step, two_steps}
+use Rattle.board_rules.proofs.WellFormed.{TurnsOk}
+use Rattle.board_laws.proofs.TwoKeeps.{two_step_keeps, two_steps_keep}
 use Rattle.two_buffers.proofs.OneStep.{found, inner, placed_laid}
 
 -- A sample leaves the FIFO laid out, and is counted.
-step_two_laid : (x : Two) (w : ℕ) → Laid (output_of x.engine) → Laid (output_of (two_step x w).after.engine)
+step_two_laid : (x : Two) (w : ℕ) → Laid (output_of x.device) → Laid (output_of (two_step x w).after.device)
 unfolding two_step
 step_two_laid x w laid =
-    placed_laid _ (inner x w).engine (step_laid (found x) (part (oldest_buffer x.turns) x.buffers) w (placed_laid _ x.engine laid))
+    placed_laid _ (inner x w).device (step_laid (found x) (part (oldest_buffer x.turns) x.buffers) w (placed_laid _ x.device laid))
 
-step_two_samples : (x : Two) (w : ℕ) → (two_step x w).after.engine.core.output.counts.samples ≡ x.engine.core.output.counts.samples + 1
+step_two_samples : (x : Two) (w : ℕ) → (two_step x w).after.device.core.output.counts.samples ≡ x.device.core.output.counts.samples + 1
 unfolding two_step with_place
 step_two_samples x w = step_samples (found x) (part (oldest_buffer x.turns) x.buffers) w
 
@@ -34,8 +34,8 @@ unfolding two_steps
 two_append x [] ys = refl
 two_append x (w ∷ ws) ys = two_append (two_step x w).after ws ys
 
-along : (x : Two) (ws : List ℕ) → Laid (output_of x.engine)
-    → Laid (output_of (two_steps x ws).engine) × ((two_steps x ws).engine.core.output.counts.samples ≡ x.engine.core.output.counts.samples + length ws)
+along : (x : Two) (ws : List ℕ) → Laid (output_of x.device)
+    → Laid (output_of (two_steps x ws).device) × ((two_steps x ws).device.core.output.counts.samples ≡ x.device.core.output.counts.samples + length ws)
 unfolding two_steps
 along x [] laid = (laid, omega arith)
 along x (w ∷ ws) laid =
@@ -44,14 +44,14 @@ along x (w ∷ ws) laid =
 
 pub record Turning (samples : List ℕ) (x₀ x : Two) (i : ℕ) : Type 0 where
   pub same : two_steps x (drop i samples) ≡ two_steps x₀ samples
-  pub well : WellFormed x.engine
-  pub turns : TurnsOk x.engine.core.output x.turns
-  pub laid : Laid (output_of x.engine)
-  pub count : x.engine.core.output.counts.samples ≡ x₀.engine.core.output.counts.samples + i
+  pub well : WellFormed x.device
+  pub turns : TurnsOk x.device.core.output x.turns
+  pub laid : Laid (output_of x.device)
+  pub count : x.device.core.output.counts.samples ≡ x₀.device.core.output.counts.samples + i
   pub long_a : length x.buffers.a ≡ length x₀.buffers.a
   pub long_b : length x.buffers.b ≡ length x₀.buffers.b
 
-pub starting : (samples : List ℕ) (x : Two) → WellFormed x.engine → TurnsOk x.engine.core.output x.turns → Laid (output_of x.engine) → Turning samples x x 0
+pub starting : (samples : List ℕ) (x : Two) → WellFormed x.device → TurnsOk x.device.core.output x.turns → Laid (output_of x.device) → Turning samples x x 0
 starting samples x well turns laid = record { same = refl; well = well; turns = turns; laid = laid; count = omega arith; long_a = refl; long_b = refl }
 
 module _ {samples : List ℕ} {x₀ x : Two} {i : ℕ} (g : Turning samples x₀ x i) where

@@ -8,9 +8,9 @@ use Rattle.rules.specs.declared.Capture.{Capture}
 use Rattle.rules.specs.declared.Core.{Core}
 use Rattle.rules.specs.State.{is_open}
 use Rattle.rules.specs.Sample.{capture_sample}
-use Rattle.two_memory_rules.specs.TwoBuffers as buffer_rules
+use Rattle.board_rules.specs.TwoBuffers as buffer_rules
 use Rattle.output.specs.Answers.{packing}
-use Rattle.full_word.specs.Answers.{engine}
+use Rattle.full_word.specs.Answers.{device}
 use Rattle.two_buffers.specs.declared.Kept.{Kept}
 use Rattle.two_buffers.specs.declared.Turned.{Turned}
 use Rattle.two_buffers.specs.declared.TwoLanding.{TwoLanding}
@@ -43,12 +43,12 @@ placed k c = record { capture = c.capture; output = with_place k c.output }
 unfoldable pub turned : buffers_kept.Kept → Core → Turned
 turned k c = record { core = placed k.place_a c; turns = k.turns }
 
--- Engine, turns and frame buffers.
+-- Device, turns and frame buffers.
 abbrev pub pair : List ℕ → List ℕ → buffer_rules.Pair
 pair a b = record { a = a; b = b }
 
 abbrev pub two : Turned → List ℕ → List ℕ → List ℕ → buffer_rules.Two
-two d slots a b = record { engine = engine d.core slots; turns = d.turns; buffers = pair a b }
+two d slots a b = record { device = device d.core slots; turns = d.turns; buffers = pair a b }
 
 -- Nowhere, or in a buffer at a byte.
 abbrev pub landing : TwoLanding → Option buffer_rules.Landing

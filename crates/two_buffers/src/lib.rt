@@ -1,5 +1,7 @@
 // Samples with two frame buffers (W2): the rules of a sample as they are, over the buffer of the oldest held word and at its place; then what the sample's events do to the turns. The
-// functions are for the crate `device`, which calls them on well-formed devices; each states its result as an equation with its definition.
+// functions are for the crate `board`, which calls them on well-formed boards; each states its result as an equation with its definition.
+#![tactic(auto)]
+
 ghost use Rattle.std.specs.Prelude.{not, ◌&&◌, ◌≡◌, ℕ, ◌+◌, ◌<◌, ◌^◌, length};
 ghost use Rattle.buffers.specs.Turns.{oldest_place as oldest_at};
 ghost use Rattle.buffers.specs.Kept as buffers_kept;
@@ -9,8 +11,8 @@ ghost use Rattle.rules.specs.State.{is_open};
 ghost use Rattle.rules.specs.Sample as sample_rules;
 ghost use Rattle.output.specs.Output.{completed};
 ghost use Rattle.rules.proofs.WellFormed.{WellFormed, CaptureOk};
-ghost use Rattle.two_memory_rules.specs.TwoBuffers as buffer_rules;
-ghost use Rattle.rules.proofs.DeviceFacts.{TurnsOk};
+ghost use Rattle.board_rules.specs.TwoBuffers as buffer_rules;
+ghost use Rattle.board_rules.proofs.WellFormed.{TurnsOk};
 ghost use Rattle.capture.specs.Answers as capture_answers;
 ghost use Rattle.full_word.specs.Answers as word_answers;
 ghost use Rattle.sampling.specs.Answers as sample_answers;
@@ -33,7 +35,7 @@ use turning::{
 };
 
 // What is kept for two buffers, with A's next place and the number of held words.
-#[derive(Drop)]
+#[derive(Clone, Copy)]
 pub struct Kept {
     pub turns: Turns,
     pub place_a: u32,
@@ -41,21 +43,21 @@ pub struct Kept {
 }
 
 // The state but for the slots.
-#[derive(Drop)]
+#[derive(Clone, Copy)]
 pub struct Turned {
     pub core: Core,
     pub turns: Turns,
 }
 
 // Where a word landed: in a buffer, at a byte of it.
-#[derive(Drop)]
+#[derive(Clone, Copy)]
 pub enum TwoLanding {
     Nowhere,
     In(Buffer, usize),
 }
 
 // What a sample leaves, and its two answers.
-#[derive(Drop)]
+#[derive(Clone, Copy)]
 pub struct TwoStepped {
     pub landing: TwoLanding,
     pub packing: Packing,
@@ -190,7 +192,7 @@ fn steps_in(
     words: &mut [u32; 2],
     samples: &[u32],
 ) -> Core
-    requires well_formed { WellFormed (word_answers.engine d slots.old) }
+    requires well_formed { WellFormed (word_answers.device d slots.old) }
     requires laid { Laid (output_answers.left d.output slots.old) }
     requires samples_bound { d.output.counts.samples + length samples.now < 2 ^ 32 }
     ensures words_after { sample_answers.noted result slots.new (buffer_rules.part u (two_answers.pair a.new b.new)) landings.new words.new ≡ note_rules.noted_steps (sample_answers.noted d slots.old (buffer_rules.part u (two_answers.pair a.old b.old)) landings.old words.old) samples.now }
@@ -246,7 +248,7 @@ pub fn two_step(
     b: &mut [u8],
     w: u32,
 ) -> TwoStepped
-    requires well_formed { WellFormed (word_answers.engine d.core slots.old) }
+    requires well_formed { WellFormed (word_answers.device d.core slots.old) }
     requires turns_ok { TurnsOk d.core.output d.turns }
     requires laid { Laid (output_answers.left d.core.output slots.old) }
     requires samples_bound { d.core.output.counts.samples + 1 < 2 ^ 32 }
@@ -283,7 +285,7 @@ pub fn two_steps(
     b: &mut [u8],
     samples: &[u32],
 ) -> Turned
-    requires well_formed { WellFormed (word_answers.engine d.core slots.old) }
+    requires well_formed { WellFormed (word_answers.device d.core slots.old) }
     requires turns_ok { TurnsOk d.core.output d.turns }
     requires laid { Laid (output_answers.left d.core.output slots.old) }
     requires samples_bound { d.core.output.counts.samples + length samples.now < 2 ^ 32 }

@@ -9,8 +9,8 @@ ghost use Rattle.output.specs.Answers as output_answers;
 ghost use Rattle.output.specs.WellFormed.{Laid};
 ghost use Rattle.rules.proofs.WellFormed.{WellFormed};
 ghost use Rattle.full_word.specs.Answers as word_answers;
-ghost use Rattle.two_memory_rules.specs.TwoBuffers as buffer_rules;
-ghost use Rattle.rules.proofs.DeviceFacts.{TurnsOk};
+ghost use Rattle.board_rules.specs.TwoBuffers as buffer_rules;
+ghost use Rattle.board_rules.proofs.WellFormed.{TurnsOk};
 ghost use Rattle.two_buffers.specs.Answers as two_answers;
 ghost use Rattle.two_buffers.specs.Stretches as stretch_rules;
 
@@ -199,7 +199,7 @@ fn run_on(
     b: &mut [u8],
     samples: &[u32],
 ) -> Turned
-    requires well_formed { WellFormed (word_answers.engine d.core slots.old) }
+    requires well_formed { WellFormed (word_answers.device d.core slots.old) }
     requires turns_ok { TurnsOk d.core.output d.turns }
     requires laid { Laid (output_answers.left d.core.output slots.old) }
     requires samples_bound { d.core.output.counts.samples + length samples.now < 2 ^ 32 }
@@ -286,7 +286,7 @@ fn run_behind(
     b: &mut [u8],
     samples: &[u32],
 ) -> Turned
-    requires well_formed { WellFormed (word_answers.engine d.core slots.old) }
+    requires well_formed { WellFormed (word_answers.device d.core slots.old) }
     requires turns_ok { TurnsOk d.core.output d.turns }
     requires laid { Laid (output_answers.left d.core.output slots.old) }
     requires samples_bound { d.core.output.counts.samples + length samples.now < 2 ^ 32 }
@@ -318,7 +318,7 @@ pub fn run_stretch(
     b: &mut [u8],
     samples: &[u32],
 ) -> Turned
-    requires well_formed { WellFormed (word_answers.engine d.core slots.old) }
+    requires well_formed { WellFormed (word_answers.device d.core slots.old) }
     requires turns_ok { TurnsOk d.core.output d.turns }
     requires laid { Laid (output_answers.left d.core.output slots.old) }
     requires samples_bound { d.core.output.counts.samples + length samples.now < 2 ^ 32 }

@@ -1,10 +1,12 @@
-// The test for malformed engines, clause by clause in the paper's order, and the clause of W9: over an engine, and over a core and lent slots, for the crates that lend them.
+// The test for malformed devices, clause by clause in the paper's order, and the clause of W9: over a device, and over a core and lent slots, for the crates that lend them.
+#![tactic(auto)]
+
 ghost use Rattle.std.specs.Prelude.{◌≡◌, not, ◌*◌, ◌/◌, ◌^◌, eqb, length};
 ghost use Rattle.registers.specs.Control.{edm};
 ghost use Rattle.packing.specs.Packing as packing_rules;
 ghost use Rattle.output.specs.Output.{slot_count};
 ghost use Rattle.rules.specs.State as state;
-ghost use Rattle.rules.specs.WellFormed as engine_clauses;
+ghost use Rattle.rules.specs.WellFormed as device_clauses;
 
 use capture::frame::{is_open, rate_period};
 use fields::{control, map};
@@ -12,7 +14,7 @@ use fifo::clauses::{bad_counts, bad_depth, bad_fifo, bad_place};
 use output::SLOTS;
 use packing::{per_word, width};
 use registers::Register;
-use rules::{Capture, Core, Engine, Frame, Registers};
+use rules::{Capture, Core, Device, Frame, Registers};
 
 // How many bits some data occupy.
 fn used(cr: u32, count: u32) -> u64
@@ -32,19 +34,19 @@ fn above(bits: u32, used: u64) -> bool
 }
 
 fn unused_bits(s: Capture) -> bool
-    ensures { result ≡ engine_clauses.unused_bits s }
+    ensures { result ≡ device_clauses.unused_bits s }
 {
     above(s.partial.bits, used(s.registers.cr, s.partial.count))
 }
 
 fn full_partial(s: Capture) -> bool
-    ensures { result ≡ engine_clauses.full_partial s }
+    ensures { result ≡ device_clauses.full_partial s }
 {
     per_word(control::edm(s.registers.cr)) <= s.partial.count
 }
 
 fn excluded(r: Registers) -> bool
-    ensures { result ≡ engine_clauses.excluded r }
+    ensures { result ≡ device_clauses.excluded r }
 {
     if map::reserved_set(Register::Control, r.cr) {
         return true;
@@ -62,7 +64,7 @@ fn excluded(r: Registers) -> bool
 }
 
 fn bad_flags(r: Registers) -> bool
-    ensures { result ≡ engine_clauses.bad_flags r }
+    ensures { result ≡ device_clauses.bad_flags r }
 {
     if 31 < r.ris {
         return true;
@@ -80,7 +82,7 @@ fn is_taken(f: Frame) -> bool
 }
 
 fn lines(f: Frame) -> u32
-    ensures { result ≡ engine_clauses.lines f }
+    ensures { result ≡ device_clauses.lines f }
 {
     match f {
         Frame::Closed => 0,
@@ -89,7 +91,7 @@ fn lines(f: Frame) -> u32
 }
 
 fn pixels(f: Frame) -> u32
-    ensures { result ≡ engine_clauses.pixels f }
+    ensures { result ≡ device_clauses.pixels f }
 {
     match f {
         Frame::Closed => 0,
@@ -97,8 +99,8 @@ fn pixels(f: Frame) -> u32
     }
 }
 
-fn active_disabled(d: Engine) -> bool
-    ensures { result ≡ engine_clauses.active_disabled d }
+fn active_disabled(d: Device) -> bool
+    ensures { result ≡ device_clauses.active_disabled d }
 {
     let s = d.core.capture;
     let frame = s.frame;
@@ -118,7 +120,7 @@ fn active_disabled(d: Engine) -> bool
 }
 
 fn partial_outside(s: Capture) -> bool
-    ensures { result ≡ engine_clauses.partial_outside s }
+    ensures { result ≡ device_clauses.partial_outside s }
 {
     let frame = s.frame;
     if 0 < s.partial.count {
@@ -128,13 +130,13 @@ fn partial_outside(s: Capture) -> bool
 }
 
 fn bad_rate(s: Capture) -> bool
-    ensures { result ≡ engine_clauses.bad_rate s }
+    ensures { result ≡ device_clauses.bad_rate s }
 {
     rate_period(s.registers.cr) <= s.rate
 }
 
-fn above_samples(d: Engine) -> bool
-    ensures { result ≡ engine_clauses.above_samples d }
+fn above_samples(d: Device) -> bool
+    ensures { result ≡ device_clauses.above_samples d }
 {
     let s = d.core.capture;
     let frame = s.frame;
@@ -147,15 +149,15 @@ fn above_samples(d: Engine) -> bool
     d.core.output.counts.samples < d.core.output.counts.completed
 }
 
-// Whether the engine of a core and lent slots is malformed.
+// Whether the device of a core and lent slots is malformed.
 pub fn malformed_core(core: Core, slots: &[u32; SLOTS]) -> bool
     requires { length slots.now ≡ slot_count }
-    ensures { result ≡ engine_clauses.bad_engine (record { core = core; slots = slots.now }) }
+    ensures { result ≡ device_clauses.malformed (record { core = core; slots = slots.now }) }
 {
     let s = core.capture;
     let r = s.registers;
     let o = core.output;
-    let d = Engine {
+    let d = Device {
         core,
         slots: *slots,
     };
@@ -195,9 +197,9 @@ pub fn malformed_core(core: Core, slots: &[u32; SLOTS]) -> bool
     bad_depth(o.depth)
 }
 
-// Whether the engine is malformed.
-pub fn malformed(d: Engine) -> bool
-    ensures { result ≡ engine_clauses.bad_engine d }
+// Whether the device is malformed.
+pub fn malformed(d: Device) -> bool
+    ensures { result ≡ device_clauses.malformed d }
 {
     malformed_core(d.core, &d.slots)
 }

@@ -6,7 +6,7 @@ use Rattle.device_calls.proofs.interrupt.Tie as tie
 
 returns : tie.Need-returns
 unfolding interrupt
-returns c = rw (c.put-line.ensures, c.before.before.interrupt.ensures, c.before.before.before.device-of.ensures, ← c.before.before.before.before.before.encodes.ensures, c.before.before.before.before.if1.true)
+returns c = rw (c.put-line.ensures, c.before.before.interrupt.ensures, c.before.before.before.board-of.ensures, ← c.before.before.before.before.before.encodes.ensures, c.before.before.before.before.if1.true)
 
 returns-2 : tie.Need-returns-2
 unfolding interrupt

@@ -8,7 +8,7 @@ returns : tie.Need-returns
 unfolding latest_frame
 returns c =
     let a = c.before.before.before.before.before.before.before.args in
-    rw (c.put-frame.ensures a.length-a a.length-b, c.before.before.latest-frame.ensures, c.before.before.before.device-of.ensures, ← c.before.before.before.before.before.encodes.ensures, c.before.before.before.before.if1.true)
+    rw (c.put-frame.ensures a.length-a a.length-b, c.before.before.latest-frame.ensures, c.before.before.before.board-of.ensures, ← c.before.before.before.before.before.encodes.ensures, c.before.before.before.before.if1.true)
 
 returns-2 : tie.Need-returns-2
 unfolding latest_frame

@@ -1,14 +1,14 @@
 -- `device_calls::one_buffer` meets its contract. Assumes nothing.
 use borrow.Author.Rules.{rules}
 use mathlib.Core.Path.{ap, ◌∙◌}
-use Rattle.rules.specs.Answers.{Changed}
+use Rattle.board_rules.specs.Answers.{Changed}
 use Rattle.call_rules.specs.DeviceCalls.{changed, one_buffer}
 use Rattle.device_calls.proofs.one_buffer.Statement.{statement}
 use Rattle.device_calls.proofs.one_buffer.Tie as tie
 
 returns : tie.Need-returns
 unfolding one_buffer
-returns c = c.store.ensures ∙ ap (λ (x : Changed). changed c.before.before.before.before.before.before.before.args.image.now x) c.before.before.one_buffer.ensures ∙ rw (c.before.before.before.device-of.ensures, ← c.before.before.before.before.before.encodes.ensures, c.before.before.before.before.if1.true)
+returns c = c.store.ensures ∙ ap (λ (x : Changed). changed c.before.before.before.before.before.before.before.args.image.now x) c.before.before.one_buffer.ensures ∙ rw (c.before.before.before.board-of.ensures, ← c.before.before.before.before.before.encodes.ensures, c.before.before.before.before.if1.true)
 
 returns-2 : tie.Need-returns-2
 unfolding one_buffer

@@ -4,7 +4,7 @@ use mathlib.Core.Path.{◌≡◌, refl}
 use Prim.Native.Nat.{ℕ}
 use Rattle.buffers.specs.declared.Buffer.{Buffer}
 use Rattle.buffers.specs.declared.Buffer.TheVariants.{A, B}
-use Rattle.device.specs.Answers.{spans}
+use Rattle.board.specs.Answers.{spans}
 use Rattle.call_rules.specs.DeviceCalls.{start_of}
 use Rattle.device_calls.proofs.put_frame.Statement.{statement}
 use Rattle.device_calls.proofs.put_frame.Tie as tie

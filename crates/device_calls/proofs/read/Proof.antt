@@ -6,7 +6,7 @@ use Rattle.device_calls.proofs.read.Tie as tie
 
 returns : tie.Need-returns
 unfolding read
-returns c = rw (c.put-reading.ensures, c.before.before.read.ensures, c.before.before.before.device-of.ensures, ← c.before.before.before.before.before.encodes.ensures, c.before.before.before.before.if1.true)
+returns c = rw (c.put-reading.ensures, c.before.before.read.ensures, c.before.before.before.board-of.ensures, ← c.before.before.before.before.before.encodes.ensures, c.before.before.before.before.if1.true)
 
 returns-2 : tie.Need-returns-2
 unfolding read

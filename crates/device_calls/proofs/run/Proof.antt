@@ -8,7 +8,7 @@ use Rattle.device_calls.proofs.run.Tie as tie
 
 returns : tie.Need-returns
 unfolding run
-returns c = run_stored c.before.before.before.before.before.before.before.before.before.before.before.before.args.image.now _ c.before.before.before.before.run.result c.store.ensures c.before.before.before.before.run.ensures ∙ rw (c.before.before.before.before.before.before.device-of.ensures, ← c.before.before.before.before.before.before.before.before.encodes.ensures, c.before.before.before.before.before.before.before.if1.true)
+returns c = run_stored c.before.before.before.before.before.before.before.before.before.before.before.before.args.image.now _ c.before.before.before.before.run.result c.store.ensures c.before.before.before.before.run.ensures ∙ rw (c.before.before.before.before.before.before.board-of.ensures, ← c.before.before.before.before.before.before.before.before.encodes.ensures, c.before.before.before.before.before.before.before.if1.true)
 
 returns-2 : tie.Need-returns-2
 unfolding run

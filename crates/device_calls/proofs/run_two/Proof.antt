@@ -10,7 +10,7 @@ returns : tie.Need-returns
 unfolding run_two
 returns c =
     run_two_stored c.before.before.before.before.before.before.before.before.before.before.before.before.before.before.before.before.args.image.now _ _ c.before.before.before.before.before.before.run-two.result c.store.ensures c.before.before.before.before.before.before.run-two.ensures ∙
-    rw (c.before.before.before.before.before.before.before.before.before.device-of.ensures, ← c.before.before.before.before.before.before.before.before.before.before.before.encodes.ensures, c.before.before.before.before.before.before.before.before.before.before.if1.true)
+    rw (c.before.before.before.before.before.before.before.before.before.board-of.ensures, ← c.before.before.before.before.before.before.before.before.before.before.before.encodes.ensures, c.before.before.before.before.before.before.before.before.before.before.if1.true)
 
 returns-2 : tie.Need-returns-2
 unfolding run_two

@@ -1,7 +1,7 @@
 -- `device_calls::sample` meets its contract. Assumes nothing.
 use borrow.Author.Rules.{rules}
 use mathlib.Core.Path.{◌∙◌}
-use Rattle.device.proofs.Modes.{sample_one, sample_two}
+use Rattle.board.proofs.Modes.{sample_one, sample_two}
 use Rattle.device_calls.proofs.Stored.{sampled}
 use Rattle.call_rules.specs.DeviceCalls.{sample}
 use Rattle.device_calls.proofs.sample.Statement.{statement}
@@ -11,7 +11,7 @@ returns : tie.Need-returns
 unfolding sample
 returns c =
     let a = c.before.before.before.before.before.before.before.before.before.before.before.before.before.before.before.before.before.args in
-    let found = c.before.before.before.before.before.before.before.before.before.before.before.before.device-of in
+    let found = c.before.before.before.before.before.before.before.before.before.before.before.before.board-of in
     sampled a.image.now a.answer.now _ _ _ c.before.before.before.before.before.sample-core.result (c.put-sampled.ensures _ _) c.before.before.before.before.before.sample-core.ensures
     (sample_one found.result _ _ _ c.before.before.before.before.before.before.before.before.before.before.enum_told.given.1) ∙
     rw (found.ensures, ← c.before.before.before.before.before.before.before.before.before.before.before.before.before.before.encodes.ensures, c.before.before.before.before.before.before.before.before.before.before.before.before.before.if1.true)
@@ -19,7 +19,7 @@ returns c =
 returns-2 : tie.Need-returns-2
 unfolding sample
 returns-2 c =
-    let found = c.before.before.before.device-of in
+    let found = c.before.before.before.board-of in
     rw (
       ← c.before.before.before.before.before.encodes.ensures,
       c.before.before.before.before.if1.true,

@@ -11,7 +11,7 @@ unfolding sample_two
 returns c =
     let a = c.before.before.before.before.before.before.before.before.before.before.before.before.before.before.before.before.args in
     two_sampled a.image.now a.answer.now _ _ c.before.before.before.before.before.before.before.sample-two.result c.put-two-sampled.ensures c.before.before.before.before.before.before.before.sample-two.ensures ∙
-    rw (c.before.before.before.before.before.before.before.before.before.before.device-of.ensures, ← c.before.before.before.before.before.before.before.before.before.before.before.before.encodes.ensures, c.before.before.before.before.before.before.before.before.before.before.before.if1.true)
+    rw (c.before.before.before.before.before.before.before.before.before.before.board-of.ensures, ← c.before.before.before.before.before.before.before.before.before.before.before.before.encodes.ensures, c.before.before.before.before.before.before.before.before.before.before.before.if1.true)
 
 returns-2 : tie.Need-returns-2
 unfolding sample_two

@@ -1,24 +1,33 @@
 -- `device_words::image_of` meets its contract. Assumes nothing.
 use borrow.Author.Rules.{rules}
+use mathlib.Core.Path.{◌≡◌}
 use native.Mathlib.Omega.{arith}
-use lib.ListN.{replicate}
-use Rattle.image_rules.specs.Image.{image_words}
-use Rattle.image_rules.specs.DeviceImage.{image_of}
-use Rattle.image_rules.proofs.DeviceInverse.{put_both}
+use lib.ListN.{length, length-map}
+use lib.Seq.{take_all}
+use Rattle.output.specs.Output.{slot_count}
+use Rattle.image_rules.specs.Image.{image_of}
 use Rattle.device_words.proofs.image_of.Statement.{statement}
 use Rattle.device_words.proofs.image_of.Tie as tie
+
+put-requires-3 : tie.Need-put-requires-3
+put-requires-3 c κs =
+    let start = c.before.before.before.before.before.before.before.before.before.before.before.before.before in
+    let all : length start.args.d.slots ≡ slot_count = rw length-map at start.well-formed.0.1.1.1.0.1.0.1 in
+    omega (arith, all, c.before.before.before.put2.auto)
 
 returns : tie.Need-returns
 unfolding image_of
 returns c =
-    let behind = c.before.before.before.before.before.before.before.before.mode-words in
-    let engine = c.before.before.before.before.before.before.before.before.before.image-of in
+    let start = c.before.before.before.before.before.before.before.before.before.before.before.before.before.before.before in
+    let all : length start.args.d.slots ≡ slot_count = rw length-map at start.well-formed.0.1.1.1.0.1.0.1 in
     rw (
-      c.before.put2.ensures,
-      c.before.before.before.before.before.put.ensures,
-      put_both (replicate 67 0) engine.result behind.result image_words (omega (arith, engine.type-inv)) (omega (arith, behind.type-inv)),
-      behind.ensures,
-      engine.ensures,
+      c.before.put3.ensures,
+      c.before.before.before.before.before.put2.ensures,
+      c.before.before.before.before.before.before.before.before.before.put.ensures,
+      c.before.before.before.before.before.before.before.before.before.before.before.before.before.words-behind.ensures,
+      c.before.before.before.before.before.before.before.before.before.before.before.before.before.before.words-before.ensures,
+      all,
+      take_all slot_count start.args.d.slots (omega arith),
     )
 
 pub image-of-spec : {M : Type 1} → statement M
@@ -33,4 +42,7 @@ image-of-spec =
     (λ c. search rules)
     (λ c. search rules)
     (λ c κs. search rules)
+    (λ c. search rules)
+    (λ c. search rules)
+    put-requires-3
     returns)

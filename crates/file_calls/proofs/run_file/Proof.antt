@@ -7,7 +7,7 @@ use Rattle.file_calls.proofs.run_file.Tie as tie
 
 returns : tie.Need-returns
 unfolding run_file
-returns c = file_stored c.before.before.before.before.before.before.before.before.args.image.now _ c.before.before.before.before.run-file.result c.store-engine.ensures c.before.before.before.before.run-file.ensures
+returns c = file_stored c.before.before.before.before.before.before.before.before.args.image.now _ c.before.before.before.before.run-file.result c.store-device.ensures c.before.before.before.before.run-file.ensures
 
 pub run-file-spec : {M : Type 1} → statement M
 run-file-spec = tie.close (tie.spec (λ c κs. search rules) (λ c κs. search rules) (λ c. search rules) returns)

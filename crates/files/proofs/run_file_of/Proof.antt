@@ -12,7 +12,7 @@ use Rattle.files.proofs.run_file_of.Tie as tie
 run-on-requires : tie.Need-run-on-requires
 run-on-requires c κs =
     let e = c.before.before.before.before.made.ensures in
-    rw (ap (λ (r : Changed). r.engine) e) (made_ready _ (rw (← e, c.before.enum_told.given.1)))
+    rw (ap (λ (r : Changed). r.device) e) (made_ready _ (rw (← e, c.before.enum_told.given.1)))
 
 returns : tie.Need-returns
 unfolding run_file_of run_on

@@ -5,7 +5,7 @@ use mathlib.Core.Path.{sym, ap, ◌∙◌}
 use Rattle.refusals.specs.Table.{outcome}
 use Rattle.fifo.proofs.Tail.{tail_part, put_tail}
 use Rattle.rules.proofs.WellFormed.{facts}
-use Rattle.rules.specs.Step.{Ran}
+use Rattle.rules.specs.Run.{Ran}
 use Rattle.file_rules.specs.File.{run_on}
 use Rattle.files.proofs.Samples.{accepted_file, refused_file}
 use Rattle.files.proofs.run_samples.Statement.{statement}
@@ -31,7 +31,7 @@ returns-2 c fresh set =
       le-ltb _ _ c.before.before.before.before.before.before.before.if1.false,
       good,
       put_tail,
-      ap (λ (x : Ran). x.engine) ran,
+      ap (λ (x : Ran). x.device) ran,
       ap (λ (x : Ran). x.buffer) ran,
     )
 

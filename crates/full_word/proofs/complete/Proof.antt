@@ -1,7 +1,7 @@
 -- `full_word::complete` meets its contract. Assumes nothing.
 use borrow.Author.Rules.{rules}
 use Rattle.rules.specs.Capture.{flagged}
-use Rattle.rules.specs.Step.{complete}
+use Rattle.rules.specs.Run.{complete}
 use Rattle.full_word.proofs.complete.Statement.{statement}
 use Rattle.full_word.proofs.complete.Tie as tie
 

@@ -2,7 +2,7 @@
 use borrow.Author.Rules.{rules}
 use mathlib.Core.Path.{◌∙◌}
 use Rattle.rules.specs.Capture.{flagged}
-use Rattle.rules.specs.Step.{complete}
+use Rattle.rules.specs.Run.{complete}
 use Rattle.full_word.proofs.Fates.{word_coded}
 use Rattle.full_word.proofs.complete_coded.Statement.{statement}
 use Rattle.full_word.proofs.complete_coded.Tie as tie

@@ -5,7 +5,7 @@ use Rattle.output.specs.Answers.{left}
 use Rattle.output.specs.Output.{OutputState, Offered, count_word, with_counts}
 use Rattle.output.proofs.Untouched.{offer_lost}
 use Rattle.rules.specs.Capture.{flagged}
-use Rattle.rules.specs.Step.{after_word, complete}
+use Rattle.rules.specs.Run.{after_word, complete}
 use Rattle.full_word.proofs.full_word.Statement.{statement}
 use Rattle.full_word.proofs.full_word.Tie as tie
 

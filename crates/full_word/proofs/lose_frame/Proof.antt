@@ -1,6 +1,6 @@
 -- `full_word::lose_frame` meets its contract. Assumes nothing.
 use borrow.Author.Rules.{rules}
-use Rattle.rules.specs.Step.{lose_frame}
+use Rattle.rules.specs.Run.{lose_frame}
 use Rattle.full_word.proofs.lose_frame.Statement.{statement}
 use Rattle.full_word.proofs.lose_frame.Tie as tie
 

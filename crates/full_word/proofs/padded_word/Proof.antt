@@ -3,7 +3,7 @@ use borrow.Author.Rules.{rules}
 use mathlib.Core.Path.{sym, ap, ◌∙◌}
 use Rattle.output.specs.Answers.{left, packing}
 use Rattle.output.specs.Output.{offer}
-use Rattle.rules.specs.Step.{Completed, complete}
+use Rattle.rules.specs.Run.{Completed, complete}
 use Rattle.full_word.proofs.Fates.{held_flagged, lost_same, not_nothing}
 use Rattle.full_word.proofs.padded_word.Statement.{statement}
 use Rattle.full_word.proofs.padded_word.Tie as tie

@@ -1,5 +1,5 @@
--- `lent::sample` meets its contract: a walk of its MIR, by hand. All that it knows of `device::sample` is that it meets its contract.
--- The device's borrow is opened, the device passed by value beside the memory, the device after it stored, and the borrow closed.
+-- `lent::sample` meets its contract: a walk of its MIR, by hand. All that it knows of `board::sample` is that it meets its contract.
+-- The board's borrow is opened, the board passed by value beside the memory, the board after it stored, and the borrow closed.
 use mathlib.Core.Path.{◌≡◌, refl, sym, ap}
 use Prim.Native.Nat.{ℕ, ◌<◌, ◌^◌}
 use mathlib.Core.List.{List, [], ◌∷◌}
@@ -41,21 +41,21 @@ use denote.Triple.Statement.{Contract, Triple}
 use denote.Triple.Table.{entered, cited}
 use denote.Triple.Walked.{says, Stays, stay_ref, stay_none, gave_slice, walk_of, Goes-ref, Goes-none, Goes-gave_slice, Walks, ends_at, walked, walk_Meets}
 use denote.Exit.{yes}
-use Rattle.device.specs.Answers as call_answers
-use Rattle.device.specs.declared.Sampled.{Sampled}
-use Rattle.rules.specs.Run as run_rules
-use Rattle.rules.specs.declared.Device.{Device}
-use Rattle.engine.specs.contracts.Reply as E
-use Rattle.engine.proofs.Reply.TheLaws as E'
-use Rattle.device.specs.contracts.Sampled as S
-use Rattle.device.proofs.Sampled.TheLaws as S'
-use Rattle.two_memory_rules.proofs.Device as T
-use Rattle.two_memory_rules.proofs.Device.Laws as T'
-use Rattle.device.specs.contracts.sample as callee
-use Rattle.device.proofs.sample.Symbol as callee_def
-use Rattle.device.proofs.sample.Symbol.{name as #callee}
-use Rattle.device.proofs.sample.Met as callee_thm
-use Rattle.lent.proofs.Behind.{val, IsDevice, spelled, beside, Spelled, retyped, typed, device-opens, device-closes}
+use Rattle.board.specs.Answers as call_answers
+use Rattle.board.specs.declared.Sampled.{Sampled}
+use Rattle.board_rules.specs.BoardRuns as board_runs
+use Rattle.board_rules.specs.declared.Board.{Board}
+use Rattle.device.specs.contracts.Reply as E
+use Rattle.device.proofs.Reply.TheLaws as E'
+use Rattle.board.specs.contracts.Sampled as S
+use Rattle.board.proofs.Sampled.TheLaws as S'
+use Rattle.board_rules.specs.contracts.Board as T
+use Rattle.board_rules.proofs.Board.TheLaws as T'
+use Rattle.board.specs.contracts.sample as callee
+use Rattle.board.proofs.sample.Symbol as callee_def
+use Rattle.board.proofs.sample.Symbol.{name as #callee}
+use Rattle.board.proofs.sample.Met as callee_thm
+use Rattle.lent.proofs.Behind.{val, IsBoard, spelled, beside, Spelled, retyped, typed, board-opens, board-closes}
 use Rattle.lent.specs.contracts.sample.Key.{name as #sample}
 use Rattle.lent.specs.contracts.sample as sample
 use Rattle.lent.proofs.sample.Statement as stated
@@ -73,17 +73,17 @@ abbrev both : Head
 both = ((S.the_type).name, [])
 
 spells : Spelled (entry table) answer both E'.mir S'.mir
-spells = record { device_is = refl; answer_is = refl; both_is = refl; both_has = refl }
+spells = record { board_is = refl; answer_is = refl; both_is = refl; both_has = refl }
 
 -- the contract that the proof cites
 abbrev Callee : {M : Type 1} {𝓤 : Ura M} (𝓛 : Logic 𝓤) (mem : Memory → SProp 𝓤) (run : Routine → Fun 𝓤) → Contract 𝓤
 Callee 𝓛 mem run = triple_of 𝓛 callee.signature (callee.spec 𝓛 mem run)
 
-module _ {M : Type 1} {𝓤 : Ura M} (𝓛 : Logic 𝓤) (at_mem : Memory → SProp 𝓤) (run : Routine → Fun 𝓤) (κ κ' : Lft) (q q' : Share) (b o : ℕ) (γ : GName) (h : Device) (m : MutBor (List ℕ)) (n w : ℕ) (n-fits : n < 2 ^ 64) (w_Fits : w < 2 ^ 32) where
+module _ {M : Type 1} {𝓤 : Ura M} (𝓛 : Logic 𝓤) (at_mem : Memory → SProp 𝓤) (run : Routine → Fun 𝓤) (κ κ' : Lft) (q q' : Share) (b o : ℕ) (γ : GName) (h : Board) (m : MutBor (List ℕ)) (n w : ℕ) (n-fits : n < 2 ^ 64) (w_Fits : w < 2 ^ 32) where
   open 𝓛 use {H}
 
   abbrev Arg : Type 0
-  Arg = MutBor Device × (MutBor (List ℕ) × (ℕ × (ℕ × Unit {0})))
+  Arg = MutBor Board × (MutBor (List ℕ) × (ℕ × (ℕ × Unit {0})))
 
   abbrev x : Arg
   x = (record { ref_ptr = (b, o); ghost_name = γ; now = h }, (m, (n, (w, tt))))
@@ -102,9 +102,9 @@ module _ {M : Type 1} {𝓤 : Ura M} (𝓛 : Logic 𝓤) (at_mem : Memory → SP
   to = (((κ', tt), (q', tt), tt, (h, x.1), (val h ∷ [], at.1)), tt)
 
   abbrev Done : Sampled → List ℕ → Type 0
-  Done r ys = call_answers.sampled r ys ≡ run_rules.sample h m.now n w
+  Done r ys = call_answers.sampled r ys ≡ board_runs.sample h m.now n w
 
-  goes : IsDevice h → ent 𝓤 (⋆ 𝓛 ((‵ (flft κ' q') ⊛ ‵ ftrue) ∷ ‵ (owns (MutSlice (named 1) κ' u8 ∷ usize ∷ u32 ∷ []) x.1 at.1) ∷ [])) ((Callee 𝓛 at_mem run).pre to)
+  goes : IsBoard h → ent 𝓤 (⋆ 𝓛 ((‵ (flft κ' q') ⊛ ‵ ftrue) ∷ ‵ (owns (MutSlice (named 1) κ' u8 ∷ usize ∷ u32 ∷ []) x.1 at.1) ∷ [])) ((Callee 𝓛 at_mem run).pre to)
   goes was =
       qed 𝓛 ((‵ (flft κ' q') ⊛ ‵ ftrue) ∷ ‵ (owns (MutSlice (named 1) κ' u8 ∷ usize ∷ u32 ∷ []) x.1 at.1) ∷ []) ∵
       move ! (1 ∷ []) $ owned ! T.the_row (Is T.the_row) (LL.makes T.the_type T'.the_plain 𝓛) h _ was $ fjoin ! $ move ! (1 ∷ 0 ∷ []) $ join ! $ frame ! $ done !
@@ -113,10 +113,10 @@ module _ {M : Type 1} {𝓤 : Ura M} (𝓛 : Logic 𝓤) (at_mem : Memory → SP
   reply r = EL.val E.the_type E'.the_laws r.reply
 
   exits : (r : Sampled) (ys : List ℕ) → Done r ys → length ys ≡ length m.now → Is E.the_row r.reply (reply r ∷ [])
-      → ent 𝓤 (⋆ 𝓛 (‵ (fobs γ ((T.the_row).coded.code r.device)) ∷ ‵ (fbor κ (Body (mem T.the_row) b o γ)) ∷ ‵ (flft κ q) ∷ (‵ (flft κ' q') ⊛ ‵ ftrue) ∷ ‵ (finally u8 m.name ys) ∷ [])) (Post (reply r))
+      → ent 𝓤 (⋆ 𝓛 (‵ (fobs γ ((T.the_row).coded.code r.board)) ∷ ‵ (fbor κ (Body (mem T.the_row) b o γ)) ∷ ‵ (flft κ q) ∷ (‵ (flft κ' q') ⊛ ‵ ftrue) ∷ ‵ (finally u8 m.name ys) ∷ [])) (Post (reply r))
   exits r ys e l is =
-      qed 𝓛 (‵ (fobs γ ((T.the_row).coded.code r.device)) ∷ ‵ (fbor κ (Body (mem T.the_row) b o γ)) ∷ ‵ (flft κ q) ∷ (‵ (flft κ' q') ⊛ ‵ ftrue) ∷ ‵ (finally u8 m.name ys) ∷ []) ∵
-      suffices ! _ (ends_at 𝓛 sample.ended stayed (sample.clauses 𝓛 at_mem run) (((κ, (κ', tt)), (q, (q', tt)), tt, x, at), tt) (reply r) r.reply (r.device, (ys, (tt, (tt, tt)))) (tt, (l, (tt, (tt, tt))))) $ says ! e $
+      qed 𝓛 (‵ (fobs γ ((T.the_row).coded.code r.board)) ∷ ‵ (fbor κ (Body (mem T.the_row) b o γ)) ∷ ‵ (flft κ q) ∷ (‵ (flft κ' q') ⊛ ‵ ftrue) ∷ ‵ (finally u8 m.name ys) ∷ []) ∵
+      suffices ! _ (ends_at 𝓛 sample.ended stayed (sample.clauses 𝓛 at_mem run) (((κ, (κ', tt)), (q, (q', tt)), tt, x, at), tt) (reply r) r.reply (r.board, (ys, (tt, (tt, tt)))) (tt, (l, (tt, (tt, tt))))) $ says ! e $
       move ! (2 ∷ 3 ∷ []) $ join ! $ frame ! $ feq_i ! (List Val) (vptr b o ∷ []) (vptr b o ∷ []) refl $ fjoin3 ! $
       nothing ! $ owned ! u32 (Is u32) (uint_Makes 𝓛 w32) w _ (refl, w_Fits) $ fjoin ! $ owned ! usize (Is usize) (uint_Makes 𝓛 w64) n _ (refl, n-fits) $ fjoin ! $ move ! (2 ∷ 0 ∷ []) $ fjoin ! $ move ! (1 ∷ 0 ∷ []) $ fjoin ! $ frame ! $
       owned ! E.the_row (Is E.the_row) (EL.makes E.the_type E'.the_plain 𝓛) r.reply _ is $ done !
@@ -127,15 +127,15 @@ module _ {M : Type 1} {𝓤 : Ura M} (𝓛 : Logic 𝓤) (at_mem : Memory → SP
         qed 𝓛 ((‵ (flft κ q) ⊛ ‵ (flft κ' q') ⊛ ‵ ftrue) ∷ ‵ (owns (MutRef (named 0) κ T.the_row ∷ MutSlice (named 1) κ' u8 ∷ usize ∷ u32 ∷ []) x at) ∷ []) ∵ enter ! C Λ (spelled g by_name) (vptr b o ∷ s ∷ vint w64 n ∷ vint w32 w ∷ []) _ $
         alloc1 ! (λ l₀. alloc1 ! (λ l₁. alloc1 ! (λ l₂. alloc1 ! (λ l₃. alloc1 ! (λ l₄. alloc1 ! (λ l₅. alloc1 ! (λ l₆. alloc1 ! (λ l₇. alloc1 ! (λ l₈. alloc0 ! $ params1 ! $
         pass1 ! (init ! 14 refl (tt, tt)) $ pass1 ! (init ! 12 refl (tt, (tt, (record { fits = room.0 }, tt)))) $ pass1 ! (init ! 10 refl (tt, record { fits = n-fits })) $ pass1 ! (init ! 8 refl (tt, record { fits = w_Fits })) $ pass0 ! $
-        -- the device's borrow is opened
+        -- the board's borrow is opened
         move ! (19 ∷ []) $ fsplit ! $ fsplit3 ! $ drop ! $ move ! (21 ∷ []) $ split ! $ move ! (2 ∷ 3 ∷ 0 ∷ []) $
-        device-opens ! tt ts.device_is h b o (λ was.
-        -- [the device's cell; the open borrow; obs; auth; 'm's token; what the other parameters own; _8; …; _7; …; _6; …; _5; …; _4; …; _3; …; _2; …; _1; …; room for _0; …]
-        assigns ! (of_opd ! (load ! (from ! (hop ! (look ! 20 refl) (stop !))) (look ! 0 refl))) (from ! (stop !)) (init ! 10 refl (typed 𝓛 ts.device_is h was)) $
+        board-opens ! tt ts.board_is h b o (λ was.
+        -- [the board's cell; the open borrow; obs; auth; 'm's token; what the other parameters own; _8; …; _7; …; _6; …; _5; …; _4; …; _3; …; _2; …; _1; …; room for _0; …]
+        assigns ! (of_opd ! (load ! (from ! (hop ! (look ! 20 refl) (stop !))) (look ! 0 refl))) (from ! (stop !)) (init ! 10 refl (typed 𝓛 ts.board_is h was)) $
         assigns ! (addr ! (from ! (fld ! refl (hop ! (look_in ! 18 (sub ! 0 refl (whole !))) (stop !))))) (from ! (stop !)) (init ! 8 refl (tt, tt)) $
         assigns ! (agg ! (and_then ! (load ! (from ! (stop !)) (look ! 8 refl)) (and_then ! (load ! (from ! (fld ! refl (stop !))) (look_in ! 18 (sub ! 1 refl (whole !)))) (no_more !)))) (from ! (stop !)) (init ! 6 refl (tt, (tt, (record { fits = room.0 }, tt)))) $
         move ! (4 ∷ 5 ∷ []) $ use2 𝓛 (raw ((Callee 𝓛 at_mem run).pre to)) (goes was) $
-        -- [what the callee asks; the device's cell; the open borrow; obs; auth; _8; …; _7; …; _6; …; _5; …; _4; …; _3; …; _2; …; _1; …; room for _0; …]
+        -- [what the callee asks; the board's cell; the open borrow; obs; auth; _8; …; _7; …; _6; …; _5; …; _4; …; _3; …; _2; …; _1; …; room for _0; …]
         calls_at ! fm (Callee 𝓛 at_mem run) known to (and_then ! (load ! (from ! (stop !)) (look ! 9 refl)) (and_then ! (load ! (from ! (stop !)) (look ! 5 refl)) (and_then ! (load ! (from ! (stop !)) (look ! 15 refl)) (and_then ! (load ! (from ! (stop !)) (look ! 13 refl)) (no_more !))))) (λ u.
         use1 𝓛 (later (some (λ (r : Sampled). ((‵ (flft κ' q') ⊛ ‵ ftrue) ⊛ ‵ ((S.the_row).own_val r (u ∷ []))) ⊛ raw (ensured 𝓛 callee.ended (callee.clauses 𝓛 at_mem run) (κ', tt) (h, x.1) tt r)))) (id⊢ 𝓤 _) $ await ! tt $ pick ! (λ r.
         -- what the callee ensures, at some last memory
@@ -143,12 +143,12 @@ module _ {M : Type 1} {𝓤 : Ura M} (𝓛 : Logic 𝓤) (at_mem : Memory → SP
         split ! $ move ! (1 ∷ []) $ heard ! (Done r zs.1.0) (λ e. fsplit ! $ drop ! $ fsplit ! $ fsplit ! $ move ! (1 ∷ []) $ feq_l ! (λ l.
         move ! (2 ∷ []) $ split ! $ move ! (1 ∷ []) $ peeks ! S.the_row (Is S.the_row) (shows 𝓛 S.the_row) r (u ∷ []) (λ is. drop ! $
         let fields = LL.owed S.the_type S'.the_laws r _ is in
-        -- ['m's token; the last memory; true; the device's cell; the open borrow; obs; auth; _8; …; _7; …; _6; …; _5; …; _4; …; _3; …; _2; …; _1; …; room for _0; …]
+        -- ['m's token; the last memory; true; the board's cell; the open borrow; obs; auth; _8; …; _7; …; _6; …; _5; …; _4; …; _3; …; _2; …; _1; …; room for _0; …]
         land ! (from ! (stop !)) (init ! 13 refl (retyped u ts.both_is ((LL.lawful S.the_type S'.the_laws 𝓛).typed r _ is).0)) $ rewrite ! 13 (λ (τ : Ty). ‵ (fat full_share τ l₅ 0 u)) ts.both_has refl $ rewrite ! 13 (λ (v : Val). ‵ (fat full_share (beside g answer both) l₅ 0 v)) (ap only (LL.tells S.the_type S'.the_laws r _ is)) refl $
-        assigns ! (of_opd ! (load ! (from ! (fld ! (ap (λ (τ : Ty). field_of τ 0) ts.both_has) (stop !))) (look_in ! 13 (sub ! 0 refl (whole !))))) (from ! (hop ! (look ! 21 refl) (stop !))) (store ! 3 refl (typed 𝓛 ts.device_is r.device fields.0)) $
+        assigns ! (of_opd ! (load ! (from ! (fld ! (ap (λ (τ : Ty). field_of τ 0) ts.both_has) (stop !))) (look_in ! 13 (sub ! 0 refl (whole !))))) (from ! (hop ! (look ! 21 refl) (stop !))) (store ! 3 refl (typed 𝓛 ts.board_is r.board fields.0)) $
         assigns ! (of_opd ! (load ! (from ! (fld ! (ap (λ (τ : Ty). field_of τ 1) ts.both_has) (stop !))) (look_in ! 13 (sub ! 1 refl (whole !))))) (from ! (stop !)) (init ! 23 refl (retyped (reply r) ts.answer_is ((EL.lawful E.the_type E'.the_laws 𝓛 tt).typed r.reply _ fields.1.0).0)) $
-        -- the borrow is closed at the device after the call
-        rewrite ! 13 (λ (τ : Ty). ‵ (fat full_share τ l₅ 0 (LL.val S.the_type S'.the_laws r))) (sym ts.both_has) refl $ move ! (3 ∷ 4 ∷ 5 ∷ 6 ∷ []) $ device-closes ! tt ts.device_is r.device fields.0 b o $
+        -- the borrow is closed at the board after the call
+        rewrite ! 13 (λ (τ : Ty). ‵ (fat full_share τ l₅ 0 (LL.val S.the_type S'.the_laws r))) (sym ts.both_has) refl $ move ! (3 ∷ 4 ∷ 5 ∷ 6 ∷ []) $ board-closes ! tt ts.board_is r.board fields.0 b o $
         -- [obs; the borrow; the token; 'm's token; the last memory; true; _8; …; _7; …; _6; …; _5; …; _4; …; _3; …; _2; …; _1; …; _0; …]
         returns ! (look ! 22 refl) $ forget ! 6 refl $ forget ! 8 refl $ forget ! 10 refl $ forget ! 12 refl $ forget ! 14 refl $ forget ! 16 refl $ forget ! 18 refl $ forget ! 20 refl $ forget ! 22 refl $
         move ! (22 ∷ 23 ∷ []) $ free1 ! $ move ! (20 ∷ 21 ∷ []) $ free1 ! $ move ! (18 ∷ 19 ∷ []) $ free1 ! $ move ! (16 ∷ 17 ∷ []) $ free1 ! $ move ! (14 ∷ 15 ∷ []) $ free1 ! $ move ! (12 ∷ 13 ∷ []) $ free1 ! $ move ! (10 ∷ 11 ∷ []) $ free1 ! $ move ! (8 ∷ 9 ∷ []) $ free1 ! $ move ! (6 ∷ 7 ∷ []) $ free1 ! $ free0 ! $
@@ -175,4 +175,4 @@ sample-spec 𝓤 𝓛 𝓜 𝓡 =
     entered 𝓤 𝓛.H (triple_of 𝓛 sample.signature (sample.spec 𝓛 𝓜.mem 𝓡.run))
     (tables 𝓤 𝓛.H 𝓜 𝓡 code.env).C (tables 𝓤 𝓛.H 𝓜 𝓡 code.env).Λ #sample code.function (code.unfolded 𝓤 𝓛.H 𝓜 𝓡)
     (sample-meets 𝓛 𝓜.mem 𝓡.run (tables_of 𝓤 𝓛.H 𝓜 (tables 𝓤 𝓛.H 𝓜 𝓡 code.env))
-    (cited 𝓤 𝓛.H (Callee 𝓛 𝓜.mem 𝓡.run) 𝓜 𝓡 code.env #callee callee_def.routine code.calls-device::sample (callee_thm.met 𝓤 𝓛 𝓜 𝓡)))
+    (cited 𝓤 𝓛.H (Callee 𝓛 𝓜.mem 𝓡.run) 𝓜 𝓡 code.env #callee callee_def.routine code.calls-board::sample (callee_thm.met 𝓤 𝓛 𝓜 𝓡)))

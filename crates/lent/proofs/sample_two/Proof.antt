@@ -1,5 +1,5 @@
--- `lent::sample_two` meets its contract: a walk of its MIR, by hand. All that it knows of `device::sample_two` is that it meets its contract.
--- The device's borrow is opened, the device passed by value beside the two memories, the device after it stored, and the borrow closed.
+-- `lent::sample_two` meets its contract: a walk of its MIR, by hand. All that it knows of `board::sample_two` is that it meets its contract.
+-- The board's borrow is opened, the board passed by value beside the two memories, the board after it stored, and the borrow closed.
 use mathlib.Core.Path.{◌≡◌, refl, sym, ap}
 use Prim.Native.Nat.{ℕ, ◌<◌, ◌^◌}
 use mathlib.Core.List.{List, [], ◌∷◌}
@@ -41,21 +41,21 @@ use denote.Triple.Statement.{Contract, Triple}
 use denote.Triple.Table.{entered, cited}
 use denote.Triple.Walked.{says, Stays, stay_ref, stay_none, gave_slice, walk_of, Goes-ref, Goes-none, Goes-gave_slice, Walks, ends_at, walked, walk_Meets}
 use denote.Exit.{yes}
-use Rattle.device.specs.Answers as call_answers
-use Rattle.device.specs.declared.TwoSampled.{TwoSampled}
-use Rattle.two_memory_rules.specs.TwoRuns as two_runs
-use Rattle.rules.specs.declared.Device.{Device}
-use Rattle.device.specs.contracts.TwoReply as E
-use Rattle.device.proofs.TwoReply.TheLaws as E'
-use Rattle.device.specs.contracts.TwoSampled as S
-use Rattle.device.proofs.TwoSampled.TheLaws as S'
-use Rattle.two_memory_rules.proofs.Device as T
-use Rattle.two_memory_rules.proofs.Device.Laws as T'
-use Rattle.device.specs.contracts.sample_two as callee
-use Rattle.device.proofs.sample_two.Symbol as callee_def
-use Rattle.device.proofs.sample_two.Symbol.{name as #callee}
-use Rattle.device.proofs.sample_two.Met as callee_thm
-use Rattle.lent.proofs.Behind.{val, IsDevice, spelled, beside, Spelled, retyped, typed, device-opens, device-closes}
+use Rattle.board.specs.Answers as call_answers
+use Rattle.board.specs.declared.TwoSampled.{TwoSampled}
+use Rattle.board_rules.specs.BoardRuns as board_runs
+use Rattle.board_rules.specs.declared.Board.{Board}
+use Rattle.board.specs.contracts.TwoReply as E
+use Rattle.board.proofs.TwoReply.TheLaws as E'
+use Rattle.board.specs.contracts.TwoSampled as S
+use Rattle.board.proofs.TwoSampled.TheLaws as S'
+use Rattle.board_rules.specs.contracts.Board as T
+use Rattle.board_rules.proofs.Board.TheLaws as T'
+use Rattle.board.specs.contracts.sample_two as callee
+use Rattle.board.proofs.sample_two.Symbol as callee_def
+use Rattle.board.proofs.sample_two.Symbol.{name as #callee}
+use Rattle.board.proofs.sample_two.Met as callee_thm
+use Rattle.lent.proofs.Behind.{val, IsBoard, spelled, beside, Spelled, retyped, typed, board-opens, board-closes}
 use Rattle.lent.specs.contracts.sample_two.Key.{name as #sample}
 use Rattle.lent.specs.contracts.sample_two as sample
 use Rattle.lent.proofs.sample_two.Statement as stated
@@ -73,17 +73,17 @@ abbrev both : Head
 both = ((S.the_type).name, [])
 
 spells : Spelled (entry table) answer both E'.mir S'.mir
-spells = record { device_is = refl; answer_is = refl; both_is = refl; both_has = refl }
+spells = record { board_is = refl; answer_is = refl; both_is = refl; both_has = refl }
 
 -- the contract that the proof cites
 abbrev Callee : {M : Type 1} {𝓤 : Ura M} (𝓛 : Logic 𝓤) (mem : Memory → SProp 𝓤) (run : Routine → Fun 𝓤) → Contract 𝓤
 Callee 𝓛 mem run = triple_of 𝓛 callee.signature (callee.spec 𝓛 mem run)
 
-module _ {M : Type 1} {𝓤 : Ura M} (𝓛 : Logic 𝓤) (at_mem : Memory → SProp 𝓤) (run : Routine → Fun 𝓤) (κ κ' κ'' : Lft) (q q' q'' : Share) (b o : ℕ) (γ : GName) (h : Device) (m : MutBor (List ℕ)) (n : ℕ) (m' : MutBor (List ℕ)) (n' w : ℕ) (n-fits : n < 2 ^ 64) (n'-fits : n' < 2 ^ 64) (w_Fits : w < 2 ^ 32) where
+module _ {M : Type 1} {𝓤 : Ura M} (𝓛 : Logic 𝓤) (at_mem : Memory → SProp 𝓤) (run : Routine → Fun 𝓤) (κ κ' κ'' : Lft) (q q' q'' : Share) (b o : ℕ) (γ : GName) (h : Board) (m : MutBor (List ℕ)) (n : ℕ) (m' : MutBor (List ℕ)) (n' w : ℕ) (n-fits : n < 2 ^ 64) (n'-fits : n' < 2 ^ 64) (w_Fits : w < 2 ^ 32) where
   open 𝓛 use {H}
 
   abbrev Arg : Type 0
-  Arg = MutBor Device × (MutBor (List ℕ) × (ℕ × (MutBor (List ℕ) × (ℕ × (ℕ × Unit {0})))))
+  Arg = MutBor Board × (MutBor (List ℕ) × (ℕ × (MutBor (List ℕ) × (ℕ × (ℕ × Unit {0})))))
 
   abbrev x : Arg
   x = (record { ref_ptr = (b, o); ghost_name = γ; now = h }, (m, (n, (m', (n', (w, tt))))))
@@ -106,9 +106,9 @@ module _ {M : Type 1} {𝓤 : Ura M} (𝓛 : Logic 𝓤) (at_mem : Memory → SP
   to = (((κ', (κ'', tt)), (q', (q'', tt)), tt, (h, x.1), (val h ∷ [], at.1)), tt)
 
   abbrev Done : TwoSampled → List ℕ → List ℕ → Type 0
-  Done r ys ys' = call_answers.two_sampled r ys ys' ≡ two_runs.sample_two h (call_answers.both m.now n m'.now n') w
+  Done r ys ys' = call_answers.two_sampled r ys ys' ≡ board_runs.sample_two h (call_answers.both m.now n m'.now n') w
 
-  goes : IsDevice h → ent 𝓤 (⋆ 𝓛 ((‵ (flft κ' q') ⊛ ‵ (flft κ'' q'') ⊛ ‵ ftrue) ∷ ‵ (owns (MutSlice (named 1) κ' u8 ∷ usize ∷ MutSlice (named 2) κ'' u8 ∷ usize ∷ u32 ∷ []) x.1 at.1) ∷ [])) ((Callee 𝓛 at_mem run).pre to)
+  goes : IsBoard h → ent 𝓤 (⋆ 𝓛 ((‵ (flft κ' q') ⊛ ‵ (flft κ'' q'') ⊛ ‵ ftrue) ∷ ‵ (owns (MutSlice (named 1) κ' u8 ∷ usize ∷ MutSlice (named 2) κ'' u8 ∷ usize ∷ u32 ∷ []) x.1 at.1) ∷ [])) ((Callee 𝓛 at_mem run).pre to)
   goes was =
       qed 𝓛 ((‵ (flft κ' q') ⊛ ‵ (flft κ'' q'') ⊛ ‵ ftrue) ∷ ‵ (owns (MutSlice (named 1) κ' u8 ∷ usize ∷ MutSlice (named 2) κ'' u8 ∷ usize ∷ u32 ∷ []) x.1 at.1) ∷ []) ∵
       move ! (1 ∷ []) $ owned ! T.the_row (Is T.the_row) (LL.makes T.the_type T'.the_plain 𝓛) h _ was $ fjoin ! $ move ! (1 ∷ 0 ∷ []) $ join ! $ frame ! $ done !
@@ -117,10 +117,10 @@ module _ {M : Type 1} {𝓤 : Ura M} (𝓛 : Logic 𝓤) (at_mem : Memory → SP
   reply r = EL.val E.the_type E'.the_laws r.reply
 
   exits : (r : TwoSampled) (ys ys' : List ℕ) → Done r ys ys' → length ys ≡ length m.now → length ys' ≡ length m'.now → Is E.the_row r.reply (reply r ∷ [])
-      → ent 𝓤 (⋆ 𝓛 (‵ (fobs γ ((T.the_row).coded.code r.device)) ∷ ‵ (fbor κ (Body (mem T.the_row) b o γ)) ∷ ‵ (flft κ q) ∷ (‵ (flft κ' q') ⊛ ‵ (flft κ'' q'') ⊛ ‵ ftrue) ∷ ‵ (finally u8 m.name ys) ∷ ‵ (finally u8 m'.name ys') ∷ [])) (Post (reply r))
+      → ent 𝓤 (⋆ 𝓛 (‵ (fobs γ ((T.the_row).coded.code r.board)) ∷ ‵ (fbor κ (Body (mem T.the_row) b o γ)) ∷ ‵ (flft κ q) ∷ (‵ (flft κ' q') ⊛ ‵ (flft κ'' q'') ⊛ ‵ ftrue) ∷ ‵ (finally u8 m.name ys) ∷ ‵ (finally u8 m'.name ys') ∷ [])) (Post (reply r))
   exits r ys ys' e l l' is =
-      qed 𝓛 (‵ (fobs γ ((T.the_row).coded.code r.device)) ∷ ‵ (fbor κ (Body (mem T.the_row) b o γ)) ∷ ‵ (flft κ q) ∷ (‵ (flft κ' q') ⊛ ‵ (flft κ'' q'') ⊛ ‵ ftrue) ∷ ‵ (finally u8 m.name ys) ∷ ‵ (finally u8 m'.name ys') ∷ []) ∵
-      suffices ! _ (ends_at 𝓛 sample.ended stayed (sample.clauses 𝓛 at_mem run) (((κ, (κ', (κ'', tt))), (q, (q', (q'', tt))), tt, x, at), tt) (reply r) r.reply (r.device, (ys, (tt, (ys', (tt, (tt, tt)))))) (tt, (l, (tt, (l', (tt, (tt, tt))))))) $ says ! e $
+      qed 𝓛 (‵ (fobs γ ((T.the_row).coded.code r.board)) ∷ ‵ (fbor κ (Body (mem T.the_row) b o γ)) ∷ ‵ (flft κ q) ∷ (‵ (flft κ' q') ⊛ ‵ (flft κ'' q'') ⊛ ‵ ftrue) ∷ ‵ (finally u8 m.name ys) ∷ ‵ (finally u8 m'.name ys') ∷ []) ∵
+      suffices ! _ (ends_at 𝓛 sample.ended stayed (sample.clauses 𝓛 at_mem run) (((κ, (κ', (κ'', tt))), (q, (q', (q'', tt))), tt, x, at), tt) (reply r) r.reply (r.board, (ys, (tt, (ys', (tt, (tt, tt)))))) (tt, (l, (tt, (l', (tt, (tt, tt))))))) $ says ! e $
       move ! (2 ∷ 3 ∷ []) $ join ! $ frame ! $ feq_i ! (List Val) (vptr b o ∷ []) (vptr b o ∷ []) refl $ fjoin3 ! $
       nothing ! $ owned ! u32 (Is u32) (uint_Makes 𝓛 w32) w _ (refl, w_Fits) $ fjoin ! $ owned ! usize (Is usize) (uint_Makes 𝓛 w64) n' _ (refl, n'-fits) $ fjoin ! $ move ! (3 ∷ 0 ∷ []) $ fjoin ! $
       owned ! usize (Is usize) (uint_Makes 𝓛 w64) n _ (refl, n-fits) $ fjoin ! $ move ! (2 ∷ 0 ∷ []) $ fjoin ! $ move ! (1 ∷ 0 ∷ []) $ fjoin ! $ frame ! $
@@ -132,17 +132,17 @@ module _ {M : Type 1} {𝓤 : Ura M} (𝓛 : Logic 𝓤) (at_mem : Memory → SP
         qed 𝓛 ((‵ (flft κ q) ⊛ ‵ (flft κ' q') ⊛ ‵ (flft κ'' q'') ⊛ ‵ ftrue) ∷ ‵ (owns (MutRef (named 0) κ T.the_row ∷ MutSlice (named 1) κ' u8 ∷ usize ∷ MutSlice (named 2) κ'' u8 ∷ usize ∷ u32 ∷ []) x at) ∷ []) ∵ enter ! C Λ (spelled g by_name) (vptr b o ∷ s ∷ vint w64 n ∷ s' ∷ vint w64 n' ∷ vint w32 w ∷ []) _ $
         alloc1 ! (λ l₀. alloc1 ! (λ l₁. alloc1 ! (λ l₂. alloc1 ! (λ l₃. alloc1 ! (λ l₄. alloc1 ! (λ l₅. alloc1 ! (λ l₆. alloc1 ! (λ l₇. alloc1 ! (λ l₈. alloc1 ! (λ l₉. alloc1 ! (λ l₁₀. alloc1 ! (λ l₁₁. alloc1 ! (λ l₁₂. alloc0 ! $ params1 ! $
         pass1 ! (init ! 22 refl (tt, tt)) $ pass1 ! (init ! 20 refl (tt, (tt, (record { fits = room.0 }, tt)))) $ pass1 ! (init ! 18 refl (tt, record { fits = n-fits })) $ pass1 ! (init ! 16 refl (tt, (tt, (record { fits = room'.0 }, tt)))) $ pass1 ! (init ! 14 refl (tt, record { fits = n'-fits })) $ pass1 ! (init ! 12 refl (tt, record { fits = w_Fits })) $ pass0 ! $
-        -- the device's borrow is opened
+        -- the board's borrow is opened
         move ! (27 ∷ []) $ fsplit ! $ fsplit3 ! $ drop ! $ move ! (29 ∷ []) $ split ! $ move ! (2 ∷ 3 ∷ 0 ∷ []) $
-        device-opens ! tt ts.device_is h b o (λ was.
-        -- [the device's cell; the open borrow; obs; auth; the memories' tokens; what the other parameters own; _12; …; _11; …; and so on to _1; …; room for _0; …]
-        assigns ! (of_opd ! (load ! (from ! (hop ! (look ! 28 refl) (stop !))) (look ! 0 refl))) (from ! (stop !)) (init ! 14 refl (typed 𝓛 ts.device_is h was)) $
+        board-opens ! tt ts.board_is h b o (λ was.
+        -- [the board's cell; the open borrow; obs; auth; the memories' tokens; what the other parameters own; _12; …; _11; …; and so on to _1; …; room for _0; …]
+        assigns ! (of_opd ! (load ! (from ! (hop ! (look ! 28 refl) (stop !))) (look ! 0 refl))) (from ! (stop !)) (init ! 14 refl (typed 𝓛 ts.board_is h was)) $
         assigns ! (addr ! (from ! (fld ! refl (hop ! (look_in ! 26 (sub ! 0 refl (whole !))) (stop !))))) (from ! (stop !)) (init ! 12 refl (tt, tt)) $
         assigns ! (agg ! (and_then ! (load ! (from ! (stop !)) (look ! 12 refl)) (and_then ! (load ! (from ! (fld ! refl (stop !))) (look_in ! 26 (sub ! 1 refl (whole !)))) (no_more !)))) (from ! (stop !)) (init ! 10 refl (tt, (tt, (record { fits = room.0 }, tt)))) $
         assigns ! (addr ! (from ! (fld ! refl (hop ! (look_in ! 22 (sub ! 0 refl (whole !))) (stop !))))) (from ! (stop !)) (init ! 8 refl (tt, tt)) $
         assigns ! (agg ! (and_then ! (load ! (from ! (stop !)) (look ! 8 refl)) (and_then ! (load ! (from ! (fld ! refl (stop !))) (look_in ! 22 (sub ! 1 refl (whole !)))) (no_more !)))) (from ! (stop !)) (init ! 6 refl (tt, (tt, (record { fits = room'.0 }, tt)))) $
         move ! (4 ∷ 5 ∷ []) $ use2 𝓛 (raw ((Callee 𝓛 at_mem run).pre to)) (goes was) $
-        -- [what the callee asks; the device's cell; the open borrow; obs; auth; _12; …; _11; …; and so on to _1; …; room for _0; …]
+        -- [what the callee asks; the board's cell; the open borrow; obs; auth; _12; …; _11; …; and so on to _1; …; room for _0; …]
         calls_at ! fm (Callee 𝓛 at_mem run) known to (and_then ! (load ! (from ! (stop !)) (look ! 13 refl)) (and_then ! (load ! (from ! (stop !)) (look ! 9 refl)) (and_then ! (load ! (from ! (stop !)) (look ! 23 refl)) (and_then ! (load ! (from ! (stop !)) (look ! 5 refl)) (and_then ! (load ! (from ! (stop !)) (look ! 19 refl)) (and_then ! (load ! (from ! (stop !)) (look ! 17 refl)) (no_more !))))))) (λ u.
         use1 𝓛 (later (some (λ (r : TwoSampled). ((‵ (flft κ' q') ⊛ ‵ (flft κ'' q'') ⊛ ‵ ftrue) ⊛ ‵ ((S.the_row).own_val r (u ∷ []))) ⊛ raw (ensured 𝓛 callee.ended (callee.clauses 𝓛 at_mem run) (κ', (κ'', tt)) (h, x.1) tt r)))) (id⊢ 𝓤 _) $ await ! tt $ pick ! (λ r.
         -- what the callee ensures, at some last memories
@@ -151,12 +151,12 @@ module _ {M : Type 1} {𝓤 : Ura M} (𝓛 : Logic 𝓤) (at_mem : Memory → SP
         move ! (1 ∷ []) $ fsplit ! $ drop ! $ fsplit ! $ fsplit ! $ move ! (1 ∷ []) $ feq_l ! (λ l'.
         move ! (3 ∷ []) $ split ! $ move ! (1 ∷ []) $ peeks ! S.the_row (Is S.the_row) (shows 𝓛 S.the_row) r (u ∷ []) (λ is. drop ! $
         let fields = LL.owed S.the_type S'.the_laws r _ is in
-        -- [the memories' tokens; B's last memory; true; A's last memory; the device's cell; the open borrow; obs; auth; _12; …; _11; …; and so on to _1; …; room for _0; …]
+        -- [the memories' tokens; B's last memory; true; A's last memory; the board's cell; the open borrow; obs; auth; _12; …; _11; …; and so on to _1; …; room for _0; …]
         land ! (from ! (stop !)) (init ! 18 refl (retyped u ts.both_is ((LL.lawful S.the_type S'.the_laws 𝓛).typed r _ is).0)) $ rewrite ! 18 (λ (τ : Ty). ‵ (fat full_share τ l₇ 0 u)) ts.both_has refl $ rewrite ! 18 (λ (v : Val). ‵ (fat full_share (beside g answer both) l₇ 0 v)) (ap only (LL.tells S.the_type S'.the_laws r _ is)) refl $
-        assigns ! (of_opd ! (load ! (from ! (fld ! (ap (λ (τ : Ty). field_of τ 0) ts.both_has) (stop !))) (look_in ! 18 (sub ! 0 refl (whole !))))) (from ! (hop ! (look ! 30 refl) (stop !))) (store ! 4 refl (typed 𝓛 ts.device_is r.device fields.0)) $
+        assigns ! (of_opd ! (load ! (from ! (fld ! (ap (λ (τ : Ty). field_of τ 0) ts.both_has) (stop !))) (look_in ! 18 (sub ! 0 refl (whole !))))) (from ! (hop ! (look ! 30 refl) (stop !))) (store ! 4 refl (typed 𝓛 ts.board_is r.board fields.0)) $
         assigns ! (of_opd ! (load ! (from ! (fld ! (ap (λ (τ : Ty). field_of τ 1) ts.both_has) (stop !))) (look_in ! 18 (sub ! 1 refl (whole !))))) (from ! (stop !)) (init ! 32 refl (retyped (reply r) ts.answer_is ((EL.lawful E.the_type E'.the_laws 𝓛 tt).typed r.reply _ fields.1.0).0)) $
-        -- the borrow is closed at the device after the call
-        rewrite ! 18 (λ (τ : Ty). ‵ (fat full_share τ l₇ 0 (LL.val S.the_type S'.the_laws r))) (sym ts.both_has) refl $ move ! (4 ∷ 5 ∷ 6 ∷ 7 ∷ []) $ device-closes ! tt ts.device_is r.device fields.0 b o $
+        -- the borrow is closed at the board after the call
+        rewrite ! 18 (λ (τ : Ty). ‵ (fat full_share τ l₇ 0 (LL.val S.the_type S'.the_laws r))) (sym ts.both_has) refl $ move ! (4 ∷ 5 ∷ 6 ∷ 7 ∷ []) $ board-closes ! tt ts.board_is r.board fields.0 b o $
         -- [obs; the borrow; the token; the memories' tokens; B's last memory; true; A's last memory; _12; …; _11; …; and so on to _1; …; _0; …]
         returns ! (look ! 31 refl) $ forget ! 7 refl $ forget ! 9 refl $ forget ! 11 refl $ forget ! 13 refl $ forget ! 15 refl $ forget ! 17 refl $ forget ! 19 refl $ forget ! 21 refl $ forget ! 23 refl $ forget ! 25 refl $ forget ! 27 refl $ forget ! 29 refl $ forget ! 31 refl $
         move ! (31 ∷ 32 ∷ []) $ free1 ! $ move ! (29 ∷ 30 ∷ []) $ free1 ! $ move ! (27 ∷ 28 ∷ []) $ free1 ! $ move ! (25 ∷ 26 ∷ []) $ free1 ! $ move ! (23 ∷ 24 ∷ []) $ free1 ! $ move ! (21 ∷ 22 ∷ []) $ free1 ! $ move ! (19 ∷ 20 ∷ []) $ free1 ! $ move ! (17 ∷ 18 ∷ []) $ free1 ! $ move ! (15 ∷ 16 ∷ []) $ free1 ! $ move ! (13 ∷ 14 ∷ []) $ free1 ! $ move ! (11 ∷ 12 ∷ []) $ free1 ! $ move ! (9 ∷ 10 ∷ []) $ free1 ! $ move ! (7 ∷ 8 ∷ []) $ free1 ! $ free0 ! $
@@ -183,4 +183,4 @@ sample-two-spec 𝓤 𝓛 𝓜 𝓡 =
     entered 𝓤 𝓛.H (triple_of 𝓛 sample.signature (sample.spec 𝓛 𝓜.mem 𝓡.run))
     (tables 𝓤 𝓛.H 𝓜 𝓡 code.env).C (tables 𝓤 𝓛.H 𝓜 𝓡 code.env).Λ #sample code.function (code.unfolded 𝓤 𝓛.H 𝓜 𝓡)
     (sample-two-meets 𝓛 𝓜.mem 𝓡.run (tables_of 𝓤 𝓛.H 𝓜 (tables 𝓤 𝓛.H 𝓜 𝓡 code.env))
-    (cited 𝓤 𝓛.H (Callee 𝓛 𝓜.mem 𝓡.run) 𝓜 𝓡 code.env #callee callee_def.routine code.calls-device::sample_two (callee_thm.met 𝓤 𝓛 𝓜 𝓡)))
+    (cited 𝓤 𝓛.H (Callee 𝓛 𝓜.mem 𝓡.run) 𝓜 𝓡 code.env #callee callee_def.routine code.calls-board::sample_two (callee_thm.met 𝓤 𝓛 𝓜 𝓡)))

@@ -58,7 +58,7 @@ returns-3 c =
     let front = rw (c.before.before.before.before.before.before.before.before.before.before.before.before.before.before.before.before.samples-left.ensures.0, ← many.is) at c.before.before.before.before.before.before.before.before.before.before.before.before.before.before.samples-at.ensures.1 in (
       (few _ _ _ _ c.before.before.before.before.before.before.before.before.before.before.before.before.before.before.before.before.before.before.before.before.before.before.before.before.requires _ _ _ many.is front).2,
       rw c.cleared.ensures.1
-          (stretch-taken _ _ _ _ c.before.before.before.before.before.before.before.before.before.before.before.before.before.before.before.before.before.before.before.before.before.before.before.before.requires _ _ _ many.is front _ _ _ _ _ (record { number = outcome c.before.before.before.before.before.before.run.result.outcome; engine = c.before.before.before.before.before.before.run.result.engine; memory = _ }) c.cleared.ensures.0 (sym c.before.before.before.before.before.before.before.before.before.before.before.before.before.before.before.before.before.before.before.fine.ensures ∙ c.before.before.before.before.before.before.before.before.before.before.before.before.before.before.before.before.before.before.if1.true) many.some c.before.before.before.before.before.before.run.ensures (ap outcome c.before.enum_told.given.1)),
+          (stretch-taken _ _ _ _ c.before.before.before.before.before.before.before.before.before.before.before.before.before.before.before.before.before.before.before.before.before.before.before.before.requires _ _ _ many.is front _ _ _ _ _ (record { number = outcome c.before.before.before.before.before.before.run.result.outcome; device = c.before.before.before.before.before.before.run.result.device; memory = _ }) c.cleared.ensures.0 (sym c.before.before.before.before.before.before.before.before.before.before.before.before.before.before.before.before.before.before.before.fine.ensures ∙ c.before.before.before.before.before.before.before.before.before.before.before.before.before.before.before.before.before.before.if1.true) many.some c.before.before.before.before.before.before.run.ensures (ap outcome c.before.enum_told.given.1)),
     )
 
 returns-4 : tie.Need-returns-4

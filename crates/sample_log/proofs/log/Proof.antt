@@ -1,10 +1,10 @@
 -- `log` meets its contract. Assumes nothing.
--- The loop keeps `Turn`: what is left of trace T leads to the same end. Each turn is one sample of the rules, by a device in mode one.
+-- The loop keeps `Turn`: what is left of trace T leads to the same end. Each turn is one sample of the rules, by a board in mode one.
 use Prim.Native.Nat.{◌-◌}
 use borrow.Author.Rules.{rules}
 use mathlib.Core.Path.{refl, ap}
 use native.Mathlib.Omega.{arith}
-use Rattle.rules.specs.declared.Device.{Device}
+use Rattle.board_rules.specs.declared.Board.{Board}
 use Rattle.sample_log.proofs.Turns.{written_one, Turn, next, last}
 use Rattle.sample_log.proofs.log.Statement.{statement}
 use Rattle.sample_log.proofs.log.Tie as tie
@@ -20,7 +20,7 @@ loop-holds c =
     record {
       within = omega arith;
       long = refl;
-      one = ap (λ (b : Device). b.mode) (written_one _ _ _ _ c.before.before.before.fresh.ensures c.before.before.write.ensures);
+      one = ap (λ (b : Board). b.mode) (written_one _ _ _ _ c.before.before.before.fresh.ensures c.before.before.write.ensures);
       same = refl;
     }
 

@@ -1,5 +1,5 @@
 -- `turn` meets its contract: a walk of its MIR, by hand. All that it knows of its callees is that they meet their contracts.
--- The device's local is lent for a lifetime of the call and comes back; the memory's borrow is handed on as it was lent.
+-- The board's local is lent for a lifetime of the call and comes back; the memory's borrow is handed on as it was lent.
 use mathlib.Core.Path.{◌≡◌, refl, ap, subst}
 use Prim.Native.Nat.{ℕ, ◌<◌, ◌^◌}
 use mathlib.Core.List.{List, [], ◌∷◌}
@@ -41,21 +41,21 @@ use denote.Triple.Statement.{Contract, Triple}
 use denote.Triple.Table.{entered, cited}
 use denote.Triple.Walked.{says, Stays, stay_dropped, gave_slice, walk_of, Goes-dropped, Goes-gave_slice, Walks, ends_at, walked, walk_Meets}
 use denote.Exit.{yes}
-use Rattle.device.specs.Answers as call_answers
-use Rattle.engine.specs.declared.Reply.{Reply}
-use Rattle.rules.specs.Run as run_rules
-use Rattle.rules.specs.declared.Device.{Device}
+use Rattle.board.specs.Answers as call_answers
+use Rattle.device.specs.declared.Reply.{Reply}
+use Rattle.board_rules.specs.BoardRuns as board_runs
+use Rattle.board_rules.specs.declared.Board.{Board}
 use Rattle.sample_log.specs.Samples.{left, sample_left}
-use Rattle.two_memory_rules.proofs.Device as T
-use Rattle.two_memory_rules.proofs.Device.Laws as T'
-use Rattle.engine.specs.contracts.Reply as R
-use Rattle.engine.proofs.Reply.TheLaws as R'
+use Rattle.board_rules.specs.contracts.Board as T
+use Rattle.board_rules.proofs.Board.TheLaws as T'
+use Rattle.device.specs.contracts.Reply as R
+use Rattle.device.proofs.Reply.TheLaws as R'
 use Rattle.lent.specs.contracts.sample as sample
 use Rattle.lent.proofs.sample.Symbol as sample_def
 use Rattle.lent.proofs.sample.Symbol.{name as #sample}
 use Rattle.lent.proofs.sample.Met as sample_thm
-use Rattle.lent.proofs.Behind.{val, IsDevice, spelled, device_head, retyped, typed}
-use Rattle.lent.proofs.Lending.{to_device, Lent, device-lends, device_back}
+use Rattle.lent.proofs.Behind.{val, IsBoard, spelled, board_head, retyped, typed}
+use Rattle.lent.proofs.Lending.{to_board, Lent, board-lends, board_back}
 use Rattle.sample_log.specs.contracts.sampled as sampled
 use Rattle.sample_log.proofs.sampled.Symbol as sampled_def
 use Rattle.sample_log.proofs.sampled.Symbol.{name as #sampled}
@@ -72,12 +72,12 @@ stayed = (stay_dropped (plain (λ _. T.the_row)) yes, (gave_slice (0 ∷ []) tt 
 abbrev reply : Reply → Val
 reply r = EL.val R.the_type R'.the_laws r
 
--- the types of the device and of the answer, as its MIR has them
+-- the types of the board and of the answer, as its MIR has them
 abbrev answer : Head
 answer = ((R.the_type).name, [])
 
-device-spelled : T'.mir ≡ entry table device_head
-device-spelled = refl
+board-spelled : T'.mir ≡ entry table board_head
+board-spelled = refl
 
 answer-spelled : R'.mir ≡ entry table answer
 answer-spelled = refl
@@ -90,11 +90,11 @@ module _ {M : Type 1} {𝓤 : Ura M} (𝓛 : Logic 𝓤) (at_mem : Memory → SP
   abbrev Sampled : Contract 𝓤
   Sampled = triple_of 𝓛 sampled.signature (sampled.spec 𝓛 at_mem run)
 
-module _ {M : Type 1} {𝓤 : Ura M} (𝓛 : Logic 𝓤) (at_mem : Memory → SProp 𝓤) (run : Routine → Fun 𝓤) (κ : Lft) (q : Share) (d : Device) (m : MutBor (List ℕ)) (w : ℕ) (d-is : IsDevice d) (w_Fits : w < 2 ^ 32) where
+module _ {M : Type 1} {𝓤 : Ura M} (𝓛 : Logic 𝓤) (at_mem : Memory → SProp 𝓤) (run : Routine → Fun 𝓤) (κ : Lft) (q : Share) (d : Board) (m : MutBor (List ℕ)) (w : ℕ) (d-is : IsBoard d) (w_Fits : w < 2 ^ 32) where
   open 𝓛 use {H, A}
 
   abbrev Arg : Type 0
-  Arg = Device × (MutBor (List ℕ) × (ℕ × Unit {0}))
+  Arg = Board × (MutBor (List ℕ) × (ℕ × Unit {0}))
 
   abbrev x : Arg
   x = (d, (m, (w, tt)))
@@ -111,9 +111,9 @@ module _ {M : Type 1} {𝓤 : Ura M} (𝓛 : Logic 𝓤) (at_mem : Memory → SP
   abbrev Memory-lent : Fml
   Memory-lent = (MutSlice (named 0) κ u8).own_val m (s ∷ [])
 
-  -- what `lent::sample` is passed, the device at l lent for ν under δ; that it has what it asks; what it says of its answer, the device and the memory
+  -- what `lent::sample` is passed, the board at l lent for ν under δ; that it has what it asks; what it says of its answer, the board and the memory
   abbrev to-sample : ℕ → ℕ → GName → (Sample 𝓛 at_mem run).Ghost
-  to-sample ν l δ = (((ν ∷ [], (κ, tt)), (full_share, (q, tt)), tt, (to_device l 0 δ d, (m, (0, (w, tt)))), (vptr l 0 ∷ [], (s ∷ [], (vint w64 0 ∷ [], (vint w32 w ∷ [], tt))))), tt)
+  to-sample ν l δ = (((ν ∷ [], (κ, tt)), (full_share, (q, tt)), tt, (to_board l 0 δ d, (m, (0, (w, tt)))), (vptr l 0 ∷ [], (s ∷ [], (vint w64 0 ∷ [], (vint w32 w ∷ [], tt))))), tt)
 
   sample-asks : (ν l : ℕ) (δ : GName) → ent 𝓤 (sep 𝓤 (sep 𝓤 (A.lft (ν ∷ []) full_share) (A.lft κ q)) (sep 𝓤 (sem 𝓛 (Lent (ν ∷ []) l 0 δ d)) (sem 𝓛 Memory-lent))) ((Sample 𝓛 at_mem run).pre (to-sample ν l δ))
   sample-asks ν l δ =
@@ -122,22 +122,22 @@ module _ {M : Type 1} {𝓤 : Ura M} (𝓛 : Logic 𝓤) (at_mem : Memory → SP
       nothing ! $ owned ! u32 (Is u32) (uint_Makes 𝓛 w32) w _ (refl, w_Fits) $ fjoin ! $ owned ! usize (Is usize) (uint_Makes 𝓛 w64) 0 _ (refl, lit< tt) $ fjoin ! $ move ! (3 ∷ 0 ∷ []) $ fjoin ! $ move ! (2 ∷ 0 ∷ []) $ fjoin ! $
       move ! (1 ∷ 0 ∷ []) $ join ! $ frame ! $ done !
 
-  abbrev Took : Reply → Device → List ℕ → Type 0
-  Took r e ys = call_answers.sampled (record { device = e; reply = r }) ys ≡ run_rules.sample d m.now 0 w
+  abbrev Took : Reply → Board → List ℕ → Type 0
+  Took r e ys = call_answers.sampled (record { board = e; reply = r }) ys ≡ board_runs.sample d m.now 0 w
 
   -- and the same for `sampled`, which prints
-  abbrev to-sampled : Reply → Device → (Sampled 𝓛 at_mem run).Ghost
+  abbrev to-sampled : Reply → Board → (Sampled 𝓛 at_mem run).Ghost
   to-sampled r e = ((tt, tt, tt, (w, (r, (e, tt))), (vint w32 w ∷ [], (reply r ∷ [], (val e ∷ [], tt)))), tt)
 
-  sampled-asks : (r : Reply) (e : Device) → Is R.the_row r (reply r ∷ []) → IsDevice e → ent 𝓤 (emp 𝓤) ((Sampled 𝓛 at_mem run).pre (to-sampled r e))
+  sampled-asks : (r : Reply) (e : Board) → Is R.the_row r (reply r ∷ []) → IsBoard e → ent 𝓤 (emp 𝓤) ((Sampled 𝓛 at_mem run).pre (to-sampled r e))
   sampled-asks r e is e-is =
       qed 𝓛 [] ∵ nothing ! $ owned ! T.the_row (Is T.the_row) (LL.makes T.the_type T'.the_plain 𝓛) e _ e-is $ fjoin ! $ owned ! R.the_row (Is R.the_row) (EL.makes R.the_type R'.the_plain 𝓛) r _ is $ fjoin ! $
       owned ! u32 (Is u32) (uint_Makes 𝓛 w32) w _ (refl, w_Fits) $ fjoin ! $ nothing ! $ join ! $ frame ! $ done !
 
-  one_sample : (r : Reply) (e : Device) (ys : List ℕ) → Took r e ys → left e ys ≡ sample_left d m.now w
-  one_sample r e ys took = ap (λ (a : run_rules.SampleResult). left a.device a.memory) took
+  one_sample : (r : Reply) (e : Board) (ys : List ℕ) → Took r e ys → left e ys ≡ sample_left d m.now w
+  one_sample r e ys took = ap (λ (a : board_runs.OneSample). left a.board a.memory) took
 
-  exits : (e : Device) (ys : List ℕ) → left e ys ≡ sample_left d m.now w → IsDevice e → length ys ≡ length m.now
+  exits : (e : Board) (ys : List ℕ) → left e ys ≡ sample_left d m.now w → IsBoard e → length ys ≡ length m.now
       → ent 𝓤 (⋆ 𝓛 ((‵ (flft κ q) ⊛ ‵ ftrue) ∷ ‵ (finally u8 m.name ys) ∷ [])) (Post (val e))
   exits e ys is e-is l =
       qed 𝓛 ((‵ (flft κ q) ⊛ ‵ ftrue) ∷ ‵ (finally u8 m.name ys) ∷ []) ∵
@@ -145,40 +145,40 @@ module _ {M : Type 1} {𝓤 : Ura M} (𝓛 : Logic 𝓤) (at_mem : Memory → SP
       frame ! $ nothing ! $ nothing ! $ fjoin ! $ move ! (1 ∷ 0 ∷ []) $ fjoin ! $ nothing ! $ fjoin ! $ frame ! $
       owned ! T.the_row (Is T.the_row) (LL.makes T.the_type T'.the_plain 𝓛) e _ e-is $ done !
 
-  module _ (C : Calls 𝓤 H) (Λ : Loops 𝓤 H) (fm : FmC 𝓤 H 𝓛.laws C) (lent-meets : Triple 𝓤 (C #sample) (Sample 𝓛 at_mem run)) (print-meets : Triple 𝓤 (C #sampled) (Sampled 𝓛 at_mem run)) (g : Head → Ty) (device_is : T'.mir ≡ g device_head) (answer_is : R'.mir ≡ g answer) where
+  module _ (C : Calls 𝓤 H) (Λ : Loops 𝓤 H) (fm : FmC 𝓤 H 𝓛.laws C) (lent-meets : Triple 𝓤 (C #sample) (Sample 𝓛 at_mem run)) (print-meets : Triple 𝓤 (C #sampled) (Sampled 𝓛 at_mem run)) (g : Head → Ty) (board_is : T'.mir ≡ g board_head) (answer_is : R'.mir ≡ g answer) where
     walk : Room u8 (length m.now) → ent 𝓤 (on_entry 𝓛 turn.signature (κ, tt) (q, tt) x at) (WpFn 𝓤 H C Λ (spelled g by_name) (val d ∷ s ∷ vint w32 w ∷ []) Post)
     walk room =
         qed 𝓛 ((‵ (flft κ q) ⊛ ‵ ftrue) ∷ ‵ (owns (T.the_row ∷ MutSlice (named 0) κ u8 ∷ u32 ∷ []) x at) ∷ []) ∵ enter ! C Λ (spelled g by_name) (val d ∷ s ∷ vint w32 w ∷ []) _ $
         alloc1 ! (λ l₀. alloc1 ! (λ l₁. alloc1 ! (λ l₂. alloc1 ! (λ l₃. alloc1 ! (λ l₄. alloc1 ! (λ l₅. alloc1 ! (λ l₆. alloc1 ! (λ l₇. alloc1 ! (λ l₈. alloc1 ! (λ l₉. alloc1 ! (λ l₁₀. alloc0 ! $ params1 ! $
-        pass1 ! (init ! 18 refl (typed 𝓛 device_is d d-is)) $ pass1 ! (init ! 16 refl (tt, (tt, (record { fits = room.0 }, tt)))) $ pass1 ! (init ! 14 refl (tt, record { fits = w_Fits })) $ pass0 ! $
+        pass1 ! (init ! 18 refl (typed 𝓛 board_is d d-is)) $ pass1 ! (init ! 16 refl (tt, (tt, (record { fits = room.0 }, tt)))) $ pass1 ! (init ! 14 refl (tt, record { fits = w_Fits })) $ pass0 ! $
         move ! (23 ∷ []) $ fsplit ! $ drop ! $ fsplit ! $ move ! (1 ∷ []) $ drop ! $ move ! (23 ∷ []) $ split ! $ move ! (1 ∷ []) $ drop ! $
-        -- [the token; the memory's borrow; _10; …; _4, where the device is held; …; _3; …; _2; …; _1; …; room for _0; …]
-        assigns ! (of_opd ! (load ! (from ! (stop !)) (look ! 20 refl))) (from ! (stop !)) (init ! 14 refl (typed 𝓛 device_is d d-is)) $
+        -- [the token; the memory's borrow; _10; …; _4, where the board is held; …; _3; …; _2; …; _1; …; room for _0; …]
+        assigns ! (of_opd ! (load ! (from ! (stop !)) (look ! 20 refl))) (from ! (stop !)) (init ! 14 refl (typed 𝓛 board_is d d-is)) $
         assigns ! (addr ! (from ! (stop !))) (from ! (stop !)) (init ! 10 refl (tt, tt)) $
         assigns ! (addr ! (from ! (fld ! refl (hop ! (look_in ! 18 (sub ! 0 refl (whole !))) (stop !))))) (from ! (stop !)) (init ! 8 refl (tt, tt)) $
         assigns ! (agg ! (and_then ! (load ! (from ! (stop !)) (look ! 8 refl)) (and_then ! (load ! (from ! (fld ! refl (stop !))) (look_in ! 18 (sub ! 1 refl (whole !)))) (no_more !)))) (from ! (stop !)) (init ! 6 refl (tt, (tt, (record { fits = room.0 }, tt)))) $
-        -- the device is lent, and the memory handed on
-        lft_new ! tt (λ ν. move ! (15 ∷ []) $ device-lends ! tt device_is (ν ∷ []) d d-is l₄ 0 (λ δ.
+        -- the board is lent, and the memory handed on
+        lft_new ! tt (λ ν. move ! (15 ∷ []) $ board-lends ! tt board_is (ν ∷ []) d d-is l₄ 0 (λ δ.
         move ! (2 ∷ 3 ∷ 0 ∷ 4 ∷ []) $ join ! $ use3 𝓛 (raw ((Sample 𝓛 at_mem run).pre (to-sample ν l₄ δ))) (sample-asks ν l₄ δ) $
-        -- [what the callee asks; what is kept of the device; _10; …; the place of _4; _3; …; _2; …; _1; …; room for _0; …]
+        -- [what the callee asks; what is kept of the board; _10; …; the place of _4; _3; …; _2; …; _1; …; room for _0; …]
         calls_at ! fm (Sample 𝓛 at_mem run) lent-meets (to-sample ν l₄ δ) (and_then ! (load ! (from ! (stop !)) (look ! 10 refl)) (and_then ! (load ! (from ! (stop !)) (look ! 6 refl)) (and_then ! (lit ! tt) (and_then ! (load ! (from ! (stop !)) (look ! 15 refl)) (no_more !))))) (λ v.
-        use1 𝓛 (later (some (λ (r : Reply). ((‵ (flft (ν ∷ []) full_share) ⊛ ‵ (flft κ q) ⊛ ‵ ftrue) ⊛ ‵ ((R.the_row).own_val r (v ∷ []))) ⊛ raw (ensured 𝓛 sample.ended (sample.clauses 𝓛 at_mem run) (ν ∷ [], (κ, tt)) (to_device l₄ 0 δ d, (m, (0, (w, tt)))) tt r)))) (id⊢ 𝓤 _) $ await ! tt $ pick ! (λ r.
-        split ! $ move ! (1 ∷ []) $ use1 𝓛 (some (λ (zs : Device × (List ℕ × (Unit {0} × (Unit {0} × Unit {0})))). ‵ (lasts sample.ended (ν ∷ [], (κ, tt)) (to_device l₄ 0 δ d, (m, (0, (w, tt)))) zs) ⊛ raw (fact 𝓤 (Took r zs.0 zs.1.0)))) (id⊢ 𝓤 _) $ pick ! (λ zs.
+        use1 𝓛 (later (some (λ (r : Reply). ((‵ (flft (ν ∷ []) full_share) ⊛ ‵ (flft κ q) ⊛ ‵ ftrue) ⊛ ‵ ((R.the_row).own_val r (v ∷ []))) ⊛ raw (ensured 𝓛 sample.ended (sample.clauses 𝓛 at_mem run) (ν ∷ [], (κ, tt)) (to_board l₄ 0 δ d, (m, (0, (w, tt)))) tt r)))) (id⊢ 𝓤 _) $ await ! tt $ pick ! (λ r.
+        split ! $ move ! (1 ∷ []) $ use1 𝓛 (some (λ (zs : Board × (List ℕ × (Unit {0} × (Unit {0} × Unit {0})))). ‵ (lasts sample.ended (ν ∷ [], (κ, tt)) (to_board l₄ 0 δ d, (m, (0, (w, tt)))) zs) ⊛ raw (fact 𝓤 (Took r zs.0 zs.1.0)))) (id⊢ 𝓤 _) $ pick ! (λ zs.
         split ! $ move ! (1 ∷ []) $ heard ! (Took r zs.0 zs.1.0) (λ took. fsplit ! $ move ! (1 ∷ []) $ fsplit ! $ fsplit ! $ move ! (1 ∷ []) $ feq_l ! (λ l.
-        -- [the last memory; true; the last device; the tokens and the answer; what is kept of the device; _10; …]
+        -- [the last memory; true; the last board; the tokens and the answer; what is kept of the board; _10; …]
         move ! (3 ∷ []) $ split ! $ move ! (1 ∷ []) $ peeks ! R.the_row (Is R.the_row) (shows 𝓛 R.the_row) r (v ∷ []) (λ is. drop ! $
         land ! (from ! (stop !)) (init ! 15 refl (retyped v answer_is ((EL.lawful R.the_type R'.the_laws 𝓛 tt).typed r _ is).0)) $ rewrite ! 15 (λ (y : Val). ‵ (fat full_share (g answer) l₅ 0 y)) (ap only (EL.tells R.the_type R'.the_laws r _ is)) refl $
-        -- the device comes back, and is printed
-        split ! $ lft_end ! tt $ move ! (0 ∷ 5 ∷ 4 ∷ []) $ device_back ! tt device_is zs.0 l₄ 0 (λ e-is. move ! (3 ∷ []) $ drop ! $
-        -- [the device; the token; the last memory; _10; …; the place of _4; _3; …; _2; …; _1; …; room for _0; …]
-        assigns ! (of_opd ! (load ! (from ! (stop !)) (look ! 0 refl))) (from ! (stop !)) (init ! 3 refl (typed 𝓛 device_is zs.0 e-is)) $
+        -- the board comes back, and is printed
+        split ! $ lft_end ! tt $ move ! (0 ∷ 5 ∷ 4 ∷ []) $ board_back ! tt board_is zs.0 l₄ 0 (λ e-is. move ! (3 ∷ []) $ drop ! $
+        -- [the board; the token; the last memory; _10; …; the place of _4; _3; …; _2; …; _1; …; room for _0; …]
+        assigns ! (of_opd ! (load ! (from ! (stop !)) (look ! 0 refl))) (from ! (stop !)) (init ! 3 refl (typed 𝓛 board_is zs.0 e-is)) $
         let r-is = subst (λ (vs : List Val). Is R.the_row r vs) (EL.tells R.the_type R'.the_laws r _ is) is in
         use0 𝓛 (raw ((Sampled 𝓛 at_mem run).pre (to-sampled r zs.0))) (sampled-asks r zs.0 r-is e-is) $
         calls_at ! fm (Sampled 𝓛 at_mem run) print-meets (to-sampled r zs.0) (and_then ! (load ! (from ! (stop !)) (look ! 17 refl)) (and_then ! (load ! (from ! (stop !)) (look ! 14 refl)) (and_then ! (load ! (from ! (stop !)) (look ! 4 refl)) (no_more !)))) (λ y.
         use1 𝓛 (later (some (λ (n : Unit {0}). (‵ ftrue ⊛ ‵ (Nothing.own_val n (y ∷ []))) ⊛ raw (ensured 𝓛 sampled.ended (sampled.clauses 𝓛 at_mem run) tt (w, (r, (zs.0, tt))) tt n)))) (id⊢ 𝓤 _) $ await ! tt $ pick ! (λ n.
         split ! $ move ! (1 ∷ []) $ drop ! $ split ! $ drop ! $ peeks ! Nothing (Is Nothing) (shows 𝓛 Nothing) n (y ∷ []) (λ unit. drop ! $ land ! (from ! (stop !)) (init ! 5 refl ((Nothing-Lawful 𝓛).typed n _ unit).0) $
         -- it is handed back
-        assigns ! (of_opd ! (load ! (from ! (stop !)) (look ! 0 refl))) (from ! (stop !)) (init ! 22 refl (typed 𝓛 device_is zs.0 e-is)) $
+        assigns ! (of_opd ! (load ! (from ! (stop !)) (look ! 0 refl))) (from ! (stop !)) (init ! 22 refl (typed 𝓛 board_is zs.0 e-is)) $
         returns ! (look ! 22 refl) $ forget ! 0 refl $ forget ! 3 refl $ forget ! 5 refl $ forget ! 7 refl $ forget ! 9 refl $ forget ! 11 refl $ forget ! 13 refl $ forget ! 16 refl $ forget ! 18 refl $ forget ! 20 refl $ forget ! 22 refl $
         move ! (22 ∷ 23 ∷ []) $ free1 ! $ move ! (20 ∷ 21 ∷ []) $ free1 ! $ move ! (18 ∷ 19 ∷ []) $ free1 ! $ move ! (16 ∷ 17 ∷ []) $ free1 ! $ move ! (0 ∷ 15 ∷ []) $ free1 ! $
         move ! (12 ∷ 13 ∷ []) $ free1 ! $ move ! (10 ∷ 11 ∷ []) $ free1 ! $ move ! (8 ∷ 9 ∷ []) $ free1 ! $ move ! (6 ∷ 7 ∷ []) $ free1 ! $ move ! (4 ∷ 5 ∷ []) $ free1 ! $ move ! (2 ∷ 3 ∷ []) $ free1 ! $ free0 ! $
@@ -190,7 +190,7 @@ module _ {M : Type 1} {𝓤 : Ura M} (𝓛 : Logic 𝓤) (mem : Memory → SProp
   turn-walks : Walks 𝓛 turn.ended stayed (WpFn 𝓤 H 𝓣.C 𝓣.Λ code.function) (turn.clauses 𝓛 mem run)
   turn-walks = walked 𝓛 turn.ended stayed (turn.clauses 𝓛 mem run) (WpFn 𝓤 H 𝓣.C 𝓣.Λ code.function)
       (λ κs. (LL.vals T.the_type T'.the_laws, (mut_slice_vals, (uint_vals w32, tt)))) (λ κs. (LL.tells T.the_type T'.the_laws, (mut_slice_Tells (named 0) κs.0 u8, (uint_Tells w32, tt))))
-      (λ κs qs bounds a g are. via 𝓤 _ (fst∗ 𝓤 _ (emp 𝓤)) (walk 𝓛 mem run κs.0 qs.0 a.0 a.1.0 a.1.1.0 are.0 are.1.1.0.1 𝓣.C 𝓣.Λ (fm_of 𝓤 H 𝓛.laws 𝓣) lent-meets print-meets (entry table) device-spelled answer-spelled are.1.0.0.1))
+      (λ κs qs bounds a g are. via 𝓤 _ (fst∗ 𝓤 _ (emp 𝓤)) (walk 𝓛 mem run κs.0 qs.0 a.0 a.1.0 a.1.1.0 are.0 are.1.1.0.1 𝓣.C 𝓣.Λ (fm_of 𝓤 H 𝓛.laws 𝓣) lent-meets print-meets (entry table) board-spelled answer-spelled are.1.0.0.1))
 
   turn-meets : Meets 𝓛 turn.signature (WpFn 𝓤 H 𝓣.C 𝓣.Λ code.function) (turn.spec 𝓛 mem run)
   turn-meets =

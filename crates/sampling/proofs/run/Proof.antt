@@ -18,7 +18,7 @@ steps-requires c κs =
     (well, (laid, s.requires.1))
 
 returns : tie.Need-returns
-returns c = ap (λ (n : Noted). ran n.engine n.buffer) c.before.before.steps.ensures ∙ same_run _ _
+returns c = ap (λ (n : Noted). ran n.device n.buffer) c.before.before.steps.ensures ∙ same_run _ _
 
 pub run_spec : {M : Type 1} → statement M
 run_spec = tie.close (tie.spec steps-requires (λ c. search rules) returns)

@@ -1,7 +1,7 @@
 -- `sampling::steps` meets its contract. Assumes nothing.
 use mathlib.Core.Path.{sym, ◌∙◌}
 use borrow.Author.Rules.{rules}
-use Rattle.full_word.specs.Answers.{engine}
+use Rattle.full_word.specs.Answers.{device}
 use Rattle.sampling.proofs.Stretches.{without_jpeg}
 use Rattle.sampling.proofs.steps.Statement.{statement}
 use Rattle.sampling.proofs.steps.Tie as tie
@@ -23,7 +23,7 @@ unpadded-steps-requires c κs =
     let pre = c.before.before.before.before.before.before.before.before.before.before.requires in
     let plain = sym c.before.before.before.before.before.before.before.embedded.ensures ∙ c.before.before.before.before.before.before.if1.false in
     let not-jpeg = sym c.before.before.before.before.before.jpeg.ensures ∙ c.before.before.before.before.if2.false in
-    (pre.0, (pre.1.0, (pre.1.1, without_jpeg (engine a.d a.slots.now) a.buffer.now a.samples.now plain not-jpeg)))
+    (pre.0, (pre.1.0, (pre.1.1, without_jpeg (device a.d a.slots.now) a.buffer.now a.samples.now plain not-jpeg)))
 
 pub steps-spec : {M : Type 1} → statement M
 steps-spec =

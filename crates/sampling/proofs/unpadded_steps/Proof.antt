@@ -4,7 +4,7 @@ use borrow.Author.Rules.{rules}
 use lib.ListN.{length, drop}
 use mathlib.Core.Path.{sym}
 use native.Mathlib.Omega.{arith}
-use Rattle.full_word.specs.Answers.{engine}
+use Rattle.full_word.specs.Answers.{device}
 use Rattle.sampling.specs.Answers.{noted}
 use Rattle.sampling.specs.Unpadded.{Unpadded}
 use Rattle.sampling.proofs.Going.{Going, starting, going_on, going_end}
@@ -14,7 +14,7 @@ use Rattle.sampling.proofs.unpadded_steps.Tie as tie
 
 abbrev invariant-loop : tie.invariant-loop
 invariant-loop slots₀ buffer₀ landings₀ words₀ samples e₀ i₀ slots buffer landings words e i =
-    Going samples (noted e₀ slots₀ buffer₀ landings₀ words₀) (noted e slots buffer landings words) i × Unpadded (engine e slots) buffer (drop i samples)
+    Going samples (noted e₀ slots₀ buffer₀ landings₀ words₀) (noted e slots buffer landings words) i × Unpadded (device e slots) buffer (drop i samples)
 
 abbrev decreases-loop : tie.decreases-loop
 decreases-loop slots₀ buffer₀ landings₀ words₀ samples e₀ i₀ slots buffer landings words e i = length samples - i

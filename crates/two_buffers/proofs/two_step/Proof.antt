@@ -4,8 +4,8 @@ use mathlib.Core.Path.{◌≡◌, sym, ap, ◌∙◌}
 use native.Mathlib.Omega.{arith}
 use Rattle.output.specs.Answers.{landing, packing}
 use Rattle.output.specs.Output.{with_place}
-use Rattle.rules.specs.Step.{Stepped}
-use Rattle.two_memory_rules.specs.TwoBuffers.{Pair, part}
+use Rattle.rules.specs.Run.{Stepped}
+use Rattle.board_rules.specs.TwoBuffers.{Pair, part}
 use Rattle.sampling.specs.Answers.{noted}
 use Rattle.sampling.proofs.Ready.{more_lines}
 use Rattle.two_buffers.specs.Answers.{placed, turned, pair, two}
@@ -30,7 +30,7 @@ abbrev inner-left : tie.After-noted-packing → Stepped
 inner-left c =
     let left = c.before.before.before.before.before.before.steps-in in
     record {
-      engine = record { core = left.result; slots = left.new.1.1.0 };
+      device = record { core = left.result; slots = left.new.1.1.0 };
       buffer = part c.before.before.before.before.before.before.before.before.before.before.before.before.before.before.before.oldest-buffer.result (lent c);
       landing = landing c.before.noted-landing.result;
       packed = packing c.noted-packing.result;

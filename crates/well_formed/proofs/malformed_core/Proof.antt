@@ -2,12 +2,12 @@
 use borrow.Author.Rules.{rules}
 use mathlib.Core.Path.{sym, ◌∙◌}
 use Rattle.bits.proofs.Booleans.{or_unit, or_true}
-use Rattle.rules.specs.WellFormed.{bad_engine}
+use Rattle.rules.specs.WellFormed.{malformed}
 use Rattle.well_formed.proofs.malformed_core.Statement.{statement}
 use Rattle.well_formed.proofs.malformed_core.Tie as tie
 
 returns-12 : tie.Need-returns-12
-unfolding bad_engine
+unfolding malformed
 returns-12 c =
     rw (
       sym c.before.before.before.before.before.before.before.before.before.before.before.before.before.before.before.before.before.before.before.before.before.before.bad-fifo.ensures ∙ c.before.before.before.before.before.before.before.before.before.before.before.before.before.before.before.before.before.before.before.before.before.if1.false,
@@ -26,7 +26,7 @@ returns-12 c =
     )
 
 pub malformed-core-spec : {M : Type 1} → statement M
-unfolding bad_engine
+unfolding malformed
 malformed-core-spec =
     tie.close
     (tie.spec

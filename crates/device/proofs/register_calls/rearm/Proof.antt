@@ -1,17 +1,15 @@
 -- `device::register_calls::rearm` meets its contract. Assumes nothing.
 use borrow.Author.Rules.{rules}
-use Rattle.rules.specs.RegisterCalls.{rearm}
+use Rattle.output.specs.Output.{with_place}
+use Rattle.rules.specs.RegisterCalls.{rearm, rearmed}
 use Rattle.device.proofs.register_calls.rearm.Statement.{statement}
 use Rattle.device.proofs.register_calls.rearm.Tie as tie
 
 pub rearm-spec : {M : Type 1} → statement M
-unfolding rearm
+unfolding rearm rearmed with_place
 rearm-spec =
     tie.close
     (tie.spec
     (λ c κs. search rules)
-    (λ c κs. search rules)
-    (λ c. rw (c.refused.ensures, ← c.before.before.malformed.ensures, c.before.if1.true))
-    (λ c κs. search rules)
-    (λ c κs. search rules)
-    (λ c. rw (← c.before.before.before.malformed.ensures, c.before.before.if1.false, ← c.rearmed-mode.ensures, ← c.before.rearmed-engine.ensures)))
+    (λ c. rw (← c.before.malformed.ensures, c.if1.true))
+    (λ c. rw (← c.before.before.malformed.ensures, c.before.if1.false)))

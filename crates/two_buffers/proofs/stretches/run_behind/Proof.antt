@@ -1,7 +1,7 @@
 -- `two_buffers::stretches::run_behind` meets its contract. Assumes nothing.
 use borrow.Author.Rules.{rules}
 use Rattle.output.specs.Output.{with_place}
-use Rattle.two_memory_rules.specs.TwoBuffers.{Pair, part}
+use Rattle.board_rules.specs.TwoBuffers.{Pair, part}
 use Rattle.sampling.specs.Notes.{Noted}
 use Rattle.sampling.specs.Answers.{noted}
 use Rattle.two_buffers.specs.Answers.{placed, pair, two}

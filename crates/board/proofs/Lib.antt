@@ -1,0 +1,4 @@
+pub mod Modes
+pub mod TwoLandings
+pub mod TwoMemories
+pub mod HandedParts

@@ -1,0 +1,12 @@
+-- `board::fresh` meets its contract. Assumes nothing.
+use borrow.Author.Rules.{rules}
+use Rattle.board.proofs.fresh.Statement.{statement}
+use Rattle.board.proofs.fresh.Tie as tie
+
+pub fresh-spec : {M : Type 1} → statement M
+fresh-spec =
+    tie.close
+    (tie.spec
+    (λ c κs. search rules)
+    (λ c κs. search rules)
+    (λ c. rw (c.in_one.ensures, c.before.fresh.ensures)))

@@ -1,0 +1,11 @@
+pub mod TwoKeeps
+pub mod BoardConservation
+pub mod AsDevice
+pub mod DeviceLaws
+pub mod CompleteFrames
+pub mod AsBefore
+pub mod InBuffers
+pub mod SampleHolds
+pub mod CallsHold
+pub mod HandedBack
+pub mod HandingExample

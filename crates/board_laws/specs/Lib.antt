@@ -1,0 +1,3 @@
+pub mod BoardHistories
+pub mod BoardBefore
+pub mod Handing

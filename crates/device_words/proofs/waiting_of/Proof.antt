@@ -1,0 +1,15 @@
+-- `device_words::waiting_of` meets its contract. Assumes nothing.
+use borrow.Author.Tests.{eq-eqb, ne_eqb}
+use Rattle.image_rules.specs.Image.{waiting_of}
+use Rattle.device_words.proofs.waiting_of.Statement.{statement}
+use Rattle.device_words.proofs.waiting_of.Tie as tie
+
+pub waiting-of-spec : {M : Type 1} → statement M
+unfolding waiting_of
+waiting-of-spec =
+    tie.close
+    (tie.spec
+    (λ c. rw (eq-eqb _ _ c.if1.true))
+    (λ c. rw (ne_eqb _ _ c.before.if1.false, eq-eqb _ _ c.if2.true))
+    (λ c. rw (ne_eqb _ _ c.before.before.if1.false, ne_eqb _ _ c.before.if2.false, eq-eqb _ _ c.if3.true))
+    (λ c. rw (ne_eqb _ _ c.before.before.if1.false, ne_eqb _ _ c.before.if2.false, ne_eqb _ _ c.if3.false)))

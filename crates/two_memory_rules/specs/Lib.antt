@@ -1,3 +1,0 @@
-pub mod TwoBuffers
-pub mod TwoRuns
-pub mod HandingBack
