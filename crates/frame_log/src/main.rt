@@ -8,7 +8,6 @@ ghost use Rattle.frame_log.specs.Frames.{three_frames, samples, left, sample_lef
 use board::TwoReply;
 use board_rules::Board;
 use buffers::Buffer;
-use libc::STDOUT_FILENO;
 use output::Packing;
 use refusals::Outcome;
 use registers::Register;
@@ -19,104 +18,105 @@ const START_A: usize = 0;
 
 const START_B: usize = 4;
 
-fn text(t: &[u8]) {
-    io::write_all(STDOUT_FILENO, t);
+// A write that fails is passed over: the comparison with the stored output shows what is missing.
+fn text(rt: &impl Print, t: &[u8]) {
+    let _ = rt.write_all(t);
 }
 
-fn hex(n: u32, digits: usize) {
-    io::print_hex(STDOUT_FILENO, n as u64, digits);
+fn hex(rt: &impl Print, n: u32, digits: usize) {
+    let _ = print!(rt; "{n:0digits$x}");
 }
 
 // A name and a number.
-fn count(name: &[u8], n: u64) {
-    text(name);
-    io::print_decimal(STDOUT_FILENO, n);
+fn count(rt: &impl Print, name: &[u8], n: u64) {
+    text(rt, name);
+    let _ = print!(rt; "{n}");
 }
 
 // The answer of a call that sets the board up.
-fn set_up(name: &[u8], outcome: Outcome) {
-    text(name);
+fn set_up(rt: &impl Print, name: &[u8], outcome: Outcome) {
+    text(rt, name);
     match outcome {
-        Outcome::Accepted => text(b": accepted\n"),
+        Outcome::Accepted => text(rt, b": accepted\n"),
         Outcome::Refused(refusal) => {
-            count(b": refused ", refusal.number() as u64);
-            text(b"\n");
+            count(rt, b": refused ", refusal.number() as u64);
+            text(rt, b"\n");
         }
     }
 }
 
-fn landing(l: TwoLanding) {
+fn landing(rt: &impl Print, l: TwoLanding) {
     match l {
-        TwoLanding::Nowhere => text(b": no landing"),
+        TwoLanding::Nowhere => text(rt, b": no landing"),
         TwoLanding::In(u, byte) => {
             match u {
-                Buffer::A => text(b": landed in A"),
-                Buffer::B => text(b": landed in B"),
+                Buffer::A => text(rt, b": landed in A"),
+                Buffer::B => text(rt, b": landed in B"),
             }
-            count(b" at byte ", byte as u64);
+            count(rt, b" at byte ", byte as u64);
         }
     }
 }
 
-fn packing(p: Packing) {
+fn packing(rt: &impl Print, p: Packing) {
     match p {
-        Packing::Nothing => text(b", no word"),
+        Packing::Nothing => text(rt, b", no word"),
         Packing::Completed(word) => {
-            text(b", completed ");
-            hex(word, 8);
+            text(rt, b", completed ");
+            hex(rt, word, 8);
         }
-        Packing::Lost => text(b", a word lost"),
+        Packing::Lost => text(rt, b", a word lost"),
     }
 }
 
 // A sample's two answers.
-fn sampled(w: u32, reply: TwoReply) {
-    text(b"sample ");
-    hex(w, 6);
+fn sampled(rt: &impl Print, w: u32, reply: TwoReply) {
+    text(rt, b"sample ");
+    hex(rt, w, 6);
     match reply {
         TwoReply::Answered(l, p) => {
-            landing(l);
-            packing(p);
+            landing(rt, l);
+            packing(rt, p);
         }
-        TwoReply::Refused(refusal) => count(b": refused ", refusal.number() as u64),
+        TwoReply::Refused(refusal) => count(rt, b": refused ", refusal.number() as u64),
     }
-    text(b"\n");
+    text(rt, b"\n");
 }
 
-fn byte(b: u8) {
-    text(b" ");
-    hex(b as u32, 2);
+fn byte(rt: &impl Print, b: u8) {
+    text(rt, b" ");
+    hex(rt, b as u32, 2);
 }
 
 // The bytes of a frame.
-fn bytes(part: &[u8]) {
+fn bytes(rt: &impl Print, part: &[u8]) {
     for i in 0..part.len() {
-        byte(part[i]);
+        byte(rt, part[i]);
     }
-    text(b"\n");
+    text(rt, b"\n");
 }
 
 // Which frame is handed back, by the two numbers of the answer.
-fn which(refusal: u32, kind: u32) {
+fn which(rt: &impl Print, refusal: u32, kind: u32) {
     if 0 < refusal {
-        count(b"  refused ", refusal as u64);
+        count(rt, b"  refused ", refusal as u64);
         return;
     }
     match kind {
-        0 => text(b"  no frame"),
-        1 => text(b"  frame in A:"),
-        2 => text(b"  frame in B:"),
-        3 => text(b"  A is too short"),
-        _ => text(b"  B is too short"),
+        0 => text(rt, b"  no frame"),
+        1 => text(rt, b"  frame in A:"),
+        2 => text(rt, b"  frame in B:"),
+        3 => text(rt, b"  A is too short"),
+        _ => text(rt, b"  B is too short"),
     }
 }
 
 // The latest complete frame, handed back and printed.
-fn handed<'m>(b: Board, memory_a: &'m [u8], memory_b: &'m [u8]) {
+fn handed<'m>(rt: &impl Print, b: Board, memory_a: &'m [u8], memory_b: &'m [u8]) {
     let mut answer = [0u32; 2];
     let part = board::hand_back(b, memory_a, START_A, memory_b, START_B, &mut answer);
-    which(answer[0], answer[1]);
-    bytes(part);
+    which(rt, answer[0], answer[1]);
+    bytes(rt, part);
 }
 
 // Sample i of the trace.
@@ -133,37 +133,43 @@ fn trace(i: usize) -> u32
 }
 
 // One sample: the board is lent for it, what it answered is printed, and the board is handed back.
-fn turn<'m, 'n>(mut b: Board, memory_a: &'m mut [u8], memory_b: &'n mut [u8], w: u32) -> Board
+fn turn<'m, 'n>(
+    rt: &impl Print,
+    mut b: Board,
+    memory_a: &'m mut [u8],
+    memory_b: &'n mut [u8],
+    w: u32,
+) -> Board
     ensures { left result memory_a.new memory_b.new ≡ sample_left b memory_a.old memory_b.old w }
 {
     let reply = lent::sample_two(&mut b, memory_a, START_A, memory_b, START_B, w);
-    sampled(w, reply);
+    sampled(rt, w, reply);
     b
 }
 
 // Mode two, a write of CR and the trace. The one board is held here, and lent for each sample; it and the memories after them are the rules' own.
-fn log<'m, 'n>(cr: u32, memory_a: &'m mut [u8], memory_b: &'n mut [u8]) -> Board
+fn log<'m, 'n>(rt: &impl Print, cr: u32, memory_a: &'m mut [u8], memory_b: &'n mut [u8]) -> Board
     ensures { left result memory_a.new memory_b.new ≡ samples (ready cr) memory_a.old memory_b.old three_frames }
 {
     let in_two = board::two_buffers(board::fresh());
     let outcome = in_two.outcome;
-    set_up(b"two buffers", outcome);
+    set_up(rt, b"two buffers", outcome);
     let written = board::write(in_two.board, Register::CR, cr);
     let outcome = written.outcome;
-    set_up(b"write of CR", outcome);
+    set_up(rt, b"write of CR", outcome);
     let mut b = written.board;
     let mut i = 0;
     while i < 24 {
         let w = trace(i);
-        b = turn(b, memory_a, memory_b, w);
-        handed(b, memory_a, memory_b);
+        b = turn(rt, b, memory_a, memory_b, w);
+        handed(rt, b, memory_a, memory_b);
         i += 1;
     }
     b
 }
 
-fn main() {
+fn main(rt: HostRuntime) {
     let mut memory_a = [0u8; 12];
     let mut memory_b = [0u8; 12];
-    log(0x48E1, &mut memory_a, &mut memory_b);
+    log(&rt, 0x48E1, &mut memory_a, &mut memory_b);
 }

@@ -1,6 +1,6 @@
 -- What a read of standard input is known to give, and what is printed in the end. Which bytes come, and which are written, no contract can say.
 use Rattle.std.specs.Prelude.{List, ◌≡◌, ℕ, ◌≤◌, ◌<◌}
-use Rattle.io.specs.Counts.{IsPrefixLen}
+use Rattle.std.specs.Counts.{IsPrefixLen}
 use Rattle.rules.specs.State.{fresh}
 use Rattle.file_rules.specs.Parts.{Taken, opened, take_parts}
 use Rattle.parts.specs.declared.Parts.{Parts}

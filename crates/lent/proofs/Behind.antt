@@ -1,4 +1,4 @@
--- What the walks share: a board behind a lent reference. The reference's borrow is opened at the board that lies there, and closed at another.
+-- For a proof that walks a function's MIR by hand; the functions here need none. A board behind a lent reference: the reference's borrow is opened at the board that lies there, and closed at another.
 -- A board is plain data: what it owns is facts, so it is let go where the borrow is opened, and made anew where it is closed.
 -- A walk goes over the function's MIR with its declared types spelled by some g: so none of them is laid out in it. `Spelled` is all that it knows of them.
 use mathlib.Core.Path.{◌≡◌, refl, sym, subst}
@@ -6,8 +6,8 @@ use Prim.Native.Nat.{ℕ}
 use mathlib.Core.List.{List, [], ◌∷◌}
 use lib.Dec.{T as Holds}
 use seplogic.Ra.Ura.{Ura}
-use seplogic.Ra.TreeShare.{full_share}
-use mir.Syntax.{Head, Ty, ty_struct, tcons, tnil, Fn}
+use base.Fraction.{full_share}
+use mir.Syntax.{Head, Ty, ty_param, ty_struct, tcons, tnil, Fn}
 use mir.MapTy.{map_fn}
 use mir.Table.{spell_with}
 use mir.Val.{Val, WT, has_ty}
@@ -34,7 +34,7 @@ IsBoard d = Is T.the_row d (val d ∷ [])
 
 -- a function with its declared types spelled by g, and a struct of a board and an answer
 abbrev pub spelled : (Head → Ty) → Fn → Fn
-spelled g f = map_fn (spell_with g) f
+spelled g f = map_fn (spell_with ty_param (λ τ. τ) (λ ν ws ss. g ν)) (λ k. k) f
 
 abbrev pub board_head : Head
 board_head = ((T.the_type).name, [])

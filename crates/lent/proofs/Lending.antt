@@ -1,11 +1,11 @@
--- The holder's side of a lent board: the board in a local is lent for a lifetime κ, and comes back at the board that the borrower left.
+-- For a proof that walks a function's MIR by hand; the functions here need none. The holder's side of a lent board: the board in a local is lent for a lifetime κ, and comes back at the board that the borrower left.
 -- A board is plain data: what it owns is facts, so the local's cell is all that is lent, and what a board owns is made anew for it.
 -- The cell stands at the type τ that the holder's MIR has for a board (`Behind`).
 use mathlib.Core.Path.{◌≡◌, refl, sym}
 use Prim.Native.Nat.{ℕ}
 use mathlib.Core.List.{List, [], ◌∷◌}
 use seplogic.Ra.Ura.{Ura}
-use seplogic.Ra.TreeShare.{full_share}
+use base.Fraction.{full_share}
 use mir.Syntax.{Ty, named}
 use mir.Val.{Val, vptr}
 use base.Fml.{Lft, GName, Fml, fsep, fat, fdead, fres, flent}
