@@ -2,7 +2,7 @@
 use mathlib.Core.Path.{ap}
 use native.Mathlib.Omega.{arith}
 use Rattle.laws.proofs.Kept.{frame_start_kept}
-use Rattle.laws.proofs.Packing.{datum-joins}
+use Rattle.laws.proofs.Packing.{datum_joins}
 use Rattle.rules.specs.Capture.{Captured, frame_start}
 use Rattle.rules.specs.State.{not_blanking, with_syncs}
 use Rattle.capture.proofs.Laws.{short_period, plain_edge}
@@ -16,7 +16,7 @@ pixel-in-requires : tie.Need-pixel-in-requires
 pixel-in-requires c κs =
     let s = frame_start c.before.args.s not_blanking in
     let ok = (frame_start_kept c.before.args.s not_blanking).ok _ c.before.requires in
-    rw c.frame-start.ensures ((omega (arith, ok.lines), omega (arith, ok.pixels)), datum-joins s c.before.args.datum ok)
+    rw c.frame-start.ensures ((omega (arith, ok.lines), omega (arith, ok.pixels)), datum_joins s c.before.args.datum ok)
 
 returns : tie.Need-returns
 unfolding with_syncs

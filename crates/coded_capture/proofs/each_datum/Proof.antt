@@ -2,7 +2,7 @@
 use borrow.Author.Rules.{rules}
 use borrow.Author.Tests.{eq-eqb, ne_eqb}
 use Rattle.codes.specs.Bytes.{waiting_after, released}
-use Rattle.laws.proofs.Packing.{datum-joins}
+use Rattle.laws.proofs.Packing.{datum_joins}
 use Rattle.rules.specs.Codes.{each_datum}
 use Rattle.coded_capture.proofs.each_datum.Statement.{statement}
 use Rattle.coded_capture.proofs.each_datum.Tie as tie
@@ -12,14 +12,14 @@ unfolding released each_datum
 returns c = rw (c.before.before.enum_told.given.1, eq-eqb _ _ c.before.if1.true) c.none-released.ensures
 
 one-datum-requires : tie.Need-one-datum-requires
-one-datum-requires c κs = datum-joins c.before.before.before.args.s c.before.before.before.args.x c.before.before.before.requires.1
+one-datum-requires c κs = datum_joins c.before.before.before.args.s c.before.before.before.args.x c.before.before.before.requires.1
 
 returns-2 : tie.Need-returns-2
 unfolding released each_datum
 returns-2 c = rw (c.before.before.enum-told2.given.1, eq-eqb _ _ c.before.if2.true) c.none-released2.ensures
 
 one-datum-requires-2 : tie.Need-one-datum-requires-2
-one-datum-requires-2 c κs = datum-joins c.before.before.before.before.args.s 255 c.before.before.before.before.requires.1
+one-datum-requires-2 c κs = datum_joins c.before.before.before.before.args.s 255 c.before.before.before.before.requires.1
 
 returns-3 : tie.Need-returns-3
 unfolding released waiting_after

@@ -2,7 +2,7 @@
 use borrow.Author.Rules.{rules}
 use mathlib.Core.Path.{◌∙◌}
 use native.Mathlib.Omega.{arith}
-use Rattle.laws.proofs.Packing.{datum-joins}
+use Rattle.laws.proofs.Packing.{datum_joins}
 use Rattle.rules.specs.State.{with_frame}
 use Rattle.rules.specs.Codes.{byte_in}
 use Rattle.coded_capture.proofs.DataLaws.{none_waits, no_line, in_line_datum}
@@ -22,7 +22,7 @@ datum-requires : tie.Need-datum-requires
 unfolding with_frame
 datum-requires c κs =
     let d = c.before.before.before.before.before.before in
-    rw c.with-scan.ensures (datum-joins d.args.s d.args.x d.requires.1)
+    rw c.with-scan.ensures (datum_joins d.args.s d.args.x d.requires.1)
 
 returns-2 : tie.Need-returns-2
 unfolding byte_in

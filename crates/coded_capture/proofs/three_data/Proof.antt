@@ -2,13 +2,13 @@
 use mathlib.Core.List.{[], ◌∷◌}
 use borrow.Author.Rules.{rules}
 use native.Mathlib.Omega.{arith}
-use Rattle.laws.proofs.Packing.{datum-joins}
+use Rattle.laws.proofs.Packing.{datum_joins}
 use Rattle.coded_capture.proofs.DataLaws.{datum_then, datum_keeps}
 use Rattle.coded_capture.proofs.three_data.Statement.{statement}
 use Rattle.coded_capture.proofs.three_data.Tie as tie
 
 datum-requires : tie.Need-datum-requires
-datum-requires c κs = datum-joins c.before.args.s c.before.args.x c.before.requires.1
+datum-requires c κs = datum_joins c.before.args.s c.before.args.x c.before.requires.1
 
 two-data-requires : tie.Need-two-data-requires
 two-data-requires c κs =

@@ -1,19 +1,19 @@
 -- `coded_capture::two_data` meets its contract. Assumes nothing.
 use mathlib.Core.List.{[], ◌∷◌}
 use borrow.Author.Rules.{rules}
-use Rattle.laws.proofs.Packing.{datum-joins}
+use Rattle.laws.proofs.Packing.{datum_joins}
 use Rattle.coded_capture.proofs.DataLaws.{datum_then, datum_keeps}
 use Rattle.coded_capture.proofs.two_data.Statement.{statement}
 use Rattle.coded_capture.proofs.two_data.Tie as tie
 
 datum-requires : tie.Need-datum-requires
-datum-requires c κs = datum-joins c.before.args.s c.before.args.x c.before.requires.1
+datum-requires c κs = datum_joins c.before.args.s c.before.args.x c.before.requires.1
 
 one-datum-requires : tie.Need-one-datum-requires
 one-datum-requires c κs =
     let a = c.before.before.before.args in
     let kept = datum_keeps a.s a.taken a.f c.before.before.before2.result a.x c.before.datum.result c.before.datum.ensures c.before.before.before.requires.0.0 c.before.before.before.requires.1 in
-    datum-joins c.before.datum.result.state a.y kept.1
+    datum_joins c.before.datum.result.state a.y kept.1
 
 returns : tie.Need-returns
 returns c =

@@ -55,7 +55,7 @@ use Rattle.board.specs.contracts.sample as callee
 use Rattle.board.proofs.sample.Symbol as callee_def
 use Rattle.board.proofs.sample.Symbol.{name as #callee}
 use Rattle.board.proofs.sample.Met as callee_thm
-use Rattle.lent.proofs.Behind.{val, IsBoard, spelled, beside, Spelled, retyped, typed, board-opens, board-closes}
+use Rattle.lent.proofs.Behind.{val, IsBoard, spelled, beside, Spelled, retyped, typed, board_opens, board_closes}
 use Rattle.lent.specs.contracts.sample.Key.{name as #sample}
 use Rattle.lent.specs.contracts.sample as sample
 use Rattle.lent.proofs.sample.Statement as stated
@@ -129,7 +129,7 @@ module _ {M : Type 1} {𝓤 : Ura M} (𝓛 : Logic 𝓤) (at_mem : Memory → SP
         pass1 ! (init ! 14 refl (tt, tt)) $ pass1 ! (init ! 12 refl (tt, (tt, (record { fits = room.0 }, tt)))) $ pass1 ! (init ! 10 refl (tt, record { fits = n-fits })) $ pass1 ! (init ! 8 refl (tt, record { fits = w_Fits })) $ pass0 ! $
         -- the board's borrow is opened
         move ! (19 ∷ []) $ fsplit ! $ fsplit3 ! $ drop ! $ move ! (21 ∷ []) $ split ! $ move ! (2 ∷ 3 ∷ 0 ∷ []) $
-        board-opens ! tt ts.board_is h b o (λ was.
+        board_opens ! tt ts.board_is h b o (λ was.
         -- [the board's cell; the open borrow; obs; auth; 'm's token; what the other parameters own; _8; …; _7; …; _6; …; _5; …; _4; …; _3; …; _2; …; _1; …; room for _0; …]
         assigns ! (of_opd ! (load ! (from ! (hop ! (look ! 20 refl) (stop !))) (look ! 0 refl))) (from ! (stop !)) (init ! 10 refl (typed 𝓛 ts.board_is h was)) $
         assigns ! (addr ! (from ! (fld ! refl (hop ! (look_in ! 18 (sub ! 0 refl (whole !))) (stop !))))) (from ! (stop !)) (init ! 8 refl (tt, tt)) $
@@ -148,7 +148,7 @@ module _ {M : Type 1} {𝓤 : Ura M} (𝓛 : Logic 𝓤) (at_mem : Memory → SP
         assigns ! (of_opd ! (load ! (from ! (fld ! (ap (λ (τ : Ty). field_of τ 0) ts.both_has) (stop !))) (look_in ! 13 (sub ! 0 refl (whole !))))) (from ! (hop ! (look ! 21 refl) (stop !))) (store ! 3 refl (typed 𝓛 ts.board_is r.board fields.0)) $
         assigns ! (of_opd ! (load ! (from ! (fld ! (ap (λ (τ : Ty). field_of τ 1) ts.both_has) (stop !))) (look_in ! 13 (sub ! 1 refl (whole !))))) (from ! (stop !)) (init ! 23 refl (retyped (reply r) ts.answer_is ((EL.lawful E.the_type E'.the_laws 𝓛 tt).typed r.reply _ fields.1.0).0)) $
         -- the borrow is closed at the board after the call
-        rewrite ! 13 (λ (τ : Ty). ‵ (fat full_share τ l₅ 0 (LL.val S.the_type S'.the_laws r))) (sym ts.both_has) refl $ move ! (3 ∷ 4 ∷ 5 ∷ 6 ∷ []) $ board-closes ! tt ts.board_is r.board fields.0 b o $
+        rewrite ! 13 (λ (τ : Ty). ‵ (fat full_share τ l₅ 0 (LL.val S.the_type S'.the_laws r))) (sym ts.both_has) refl $ move ! (3 ∷ 4 ∷ 5 ∷ 6 ∷ []) $ board_closes ! tt ts.board_is r.board fields.0 b o $
         -- [obs; the borrow; the token; 'm's token; the last memory; true; _8; …; _7; …; _6; …; _5; …; _4; …; _3; …; _2; …; _1; …; _0; …]
         returns ! (look ! 22 refl) $ forget ! 6 refl $ forget ! 8 refl $ forget ! 10 refl $ forget ! 12 refl $ forget ! 14 refl $ forget ! 16 refl $ forget ! 18 refl $ forget ! 20 refl $ forget ! 22 refl $
         move ! (22 ∷ 23 ∷ []) $ free1 ! $ move ! (20 ∷ 21 ∷ []) $ free1 ! $ move ! (18 ∷ 19 ∷ []) $ free1 ! $ move ! (16 ∷ 17 ∷ []) $ free1 ! $ move ! (14 ∷ 15 ∷ []) $ free1 ! $ move ! (12 ∷ 13 ∷ []) $ free1 ! $ move ! (10 ∷ 11 ∷ []) $ free1 ! $ move ! (8 ∷ 9 ∷ []) $ free1 ! $ move ! (6 ∷ 7 ∷ []) $ free1 ! $ free0 ! $

@@ -55,7 +55,7 @@ use Rattle.board.specs.contracts.sample_two as callee
 use Rattle.board.proofs.sample_two.Symbol as callee_def
 use Rattle.board.proofs.sample_two.Symbol.{name as #callee}
 use Rattle.board.proofs.sample_two.Met as callee_thm
-use Rattle.lent.proofs.Behind.{val, IsBoard, spelled, beside, Spelled, retyped, typed, board-opens, board-closes}
+use Rattle.lent.proofs.Behind.{val, IsBoard, spelled, beside, Spelled, retyped, typed, board_opens, board_closes}
 use Rattle.lent.specs.contracts.sample_two.Key.{name as #sample}
 use Rattle.lent.specs.contracts.sample_two as sample
 use Rattle.lent.proofs.sample_two.Statement as stated
@@ -134,7 +134,7 @@ module _ {M : Type 1} {𝓤 : Ura M} (𝓛 : Logic 𝓤) (at_mem : Memory → SP
         pass1 ! (init ! 22 refl (tt, tt)) $ pass1 ! (init ! 20 refl (tt, (tt, (record { fits = room.0 }, tt)))) $ pass1 ! (init ! 18 refl (tt, record { fits = n-fits })) $ pass1 ! (init ! 16 refl (tt, (tt, (record { fits = room'.0 }, tt)))) $ pass1 ! (init ! 14 refl (tt, record { fits = n'-fits })) $ pass1 ! (init ! 12 refl (tt, record { fits = w_Fits })) $ pass0 ! $
         -- the board's borrow is opened
         move ! (27 ∷ []) $ fsplit ! $ fsplit3 ! $ drop ! $ move ! (29 ∷ []) $ split ! $ move ! (2 ∷ 3 ∷ 0 ∷ []) $
-        board-opens ! tt ts.board_is h b o (λ was.
+        board_opens ! tt ts.board_is h b o (λ was.
         -- [the board's cell; the open borrow; obs; auth; the memories' tokens; what the other parameters own; _12; …; _11; …; and so on to _1; …; room for _0; …]
         assigns ! (of_opd ! (load ! (from ! (hop ! (look ! 28 refl) (stop !))) (look ! 0 refl))) (from ! (stop !)) (init ! 14 refl (typed 𝓛 ts.board_is h was)) $
         assigns ! (addr ! (from ! (fld ! refl (hop ! (look_in ! 26 (sub ! 0 refl (whole !))) (stop !))))) (from ! (stop !)) (init ! 12 refl (tt, tt)) $
@@ -156,7 +156,7 @@ module _ {M : Type 1} {𝓤 : Ura M} (𝓛 : Logic 𝓤) (at_mem : Memory → SP
         assigns ! (of_opd ! (load ! (from ! (fld ! (ap (λ (τ : Ty). field_of τ 0) ts.both_has) (stop !))) (look_in ! 18 (sub ! 0 refl (whole !))))) (from ! (hop ! (look ! 30 refl) (stop !))) (store ! 4 refl (typed 𝓛 ts.board_is r.board fields.0)) $
         assigns ! (of_opd ! (load ! (from ! (fld ! (ap (λ (τ : Ty). field_of τ 1) ts.both_has) (stop !))) (look_in ! 18 (sub ! 1 refl (whole !))))) (from ! (stop !)) (init ! 32 refl (retyped (reply r) ts.answer_is ((EL.lawful E.the_type E'.the_laws 𝓛 tt).typed r.reply _ fields.1.0).0)) $
         -- the borrow is closed at the board after the call
-        rewrite ! 18 (λ (τ : Ty). ‵ (fat full_share τ l₇ 0 (LL.val S.the_type S'.the_laws r))) (sym ts.both_has) refl $ move ! (4 ∷ 5 ∷ 6 ∷ 7 ∷ []) $ board-closes ! tt ts.board_is r.board fields.0 b o $
+        rewrite ! 18 (λ (τ : Ty). ‵ (fat full_share τ l₇ 0 (LL.val S.the_type S'.the_laws r))) (sym ts.both_has) refl $ move ! (4 ∷ 5 ∷ 6 ∷ 7 ∷ []) $ board_closes ! tt ts.board_is r.board fields.0 b o $
         -- [obs; the borrow; the token; the memories' tokens; B's last memory; true; A's last memory; _12; …; _11; …; and so on to _1; …; _0; …]
         returns ! (look ! 31 refl) $ forget ! 7 refl $ forget ! 9 refl $ forget ! 11 refl $ forget ! 13 refl $ forget ! 15 refl $ forget ! 17 refl $ forget ! 19 refl $ forget ! 21 refl $ forget ! 23 refl $ forget ! 25 refl $ forget ! 27 refl $ forget ! 29 refl $ forget ! 31 refl $
         move ! (31 ∷ 32 ∷ []) $ free1 ! $ move ! (29 ∷ 30 ∷ []) $ free1 ! $ move ! (27 ∷ 28 ∷ []) $ free1 ! $ move ! (25 ∷ 26 ∷ []) $ free1 ! $ move ! (23 ∷ 24 ∷ []) $ free1 ! $ move ! (21 ∷ 22 ∷ []) $ free1 ! $ move ! (19 ∷ 20 ∷ []) $ free1 ! $ move ! (17 ∷ 18 ∷ []) $ free1 ! $ move ! (15 ∷ 16 ∷ []) $ free1 ! $ move ! (13 ∷ 14 ∷ []) $ free1 ! $ move ! (11 ∷ 12 ∷ []) $ free1 ! $ move ! (9 ∷ 10 ∷ []) $ free1 ! $ move ! (7 ∷ 8 ∷ []) $ free1 ! $ free0 ! $

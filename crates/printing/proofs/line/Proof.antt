@@ -6,7 +6,7 @@ use Rattle.refusals.proofs.Numbered.{never_zero}
 use Rattle.text.proofs.Appending.{put_none}
 use Rattle.printing.specs.Printed.{lines}
 use Rattle.printing.proofs.Lines.{refused_lines, past_one}
-use Rattle.printing.proofs.Fitting.{line-fits, put_whole, small}
+use Rattle.printing.proofs.Fitting.{line_fits, put_whole, small}
 use Rattle.printing.proofs.line.Statement.{statement}
 use Rattle.printing.proofs.line.Tie as tie
 
@@ -24,7 +24,7 @@ same_length c = search rules
 
 returns : tie.Need-returns
 unfolding lines
-returns c = put_whole _ _ _ _ (line-fits c.before.before.before.before.before.before.before.before.args.d c.before.before.before.before.before.before.before.before.args.memory.now (record { samples = omega (arith, c.before.before.before.before.before.before.before.before.well-formed); landed = omega (arith, c.before.before.before.before.before.before.before.before.well-formed); held = omega (arith, c.before.before.before.before.before.before.before.before.well-formed); discarded = omega (arith, c.before.before.before.before.before.before.before.before.well-formed) }) _ (small c.before.before.before.before.before.before.before.before.args.outcome) c.before.before.before.before.before.before.before.before.args.k) (rw c.before.before.before.before.enum_told.given.1 c.before.before.report-line.ensures)
+returns c = put_whole _ _ _ _ (line_fits c.before.before.before.before.before.before.before.before.args.d c.before.before.before.before.before.before.before.before.args.memory.now (record { samples = omega (arith, c.before.before.before.before.before.before.before.before.well-formed); landed = omega (arith, c.before.before.before.before.before.before.before.before.well-formed); held = omega (arith, c.before.before.before.before.before.before.before.before.well-formed); discarded = omega (arith, c.before.before.before.before.before.before.before.before.well-formed) }) _ (small c.before.before.before.before.before.before.before.before.args.outcome) c.before.before.before.before.before.before.before.before.args.k) (rw c.before.before.before.before.enum_told.given.1 c.before.before.report-line.ensures)
 
 slice-aggregate-count-line : tie.Need-slice-aggregate-count-line
 slice-aggregate-count-line c = search rules
@@ -40,12 +40,12 @@ same-length-2 c = search rules
 
 returns-2 : tie.Need-returns-2
 returns-2 c =
-    put_whole _ _ _ _ (line-fits c.before.before.before.before.before.before.before.before.before.before.before.before.args.d c.before.before.before.before.before.before.before.before.before.before.before.before.args.memory.now (record { samples = omega (arith, c.before.before.before.before.before.before.before.before.before.before.before.before.well-formed); landed = omega (arith, c.before.before.before.before.before.before.before.before.before.before.before.before.well-formed); held = omega (arith, c.before.before.before.before.before.before.before.before.before.before.before.before.well-formed); discarded = omega (arith, c.before.before.before.before.before.before.before.before.before.before.before.before.well-formed) }) _ (small c.before.before.before.before.before.before.before.before.before.before.before.before.args.outcome) c.before.before.before.before.before.before.before.before.before.before.before.before.args.k)
+    put_whole _ _ _ _ (line_fits c.before.before.before.before.before.before.before.before.before.before.before.before.args.d c.before.before.before.before.before.before.before.before.before.before.before.before.args.memory.now (record { samples = omega (arith, c.before.before.before.before.before.before.before.before.before.before.before.before.well-formed); landed = omega (arith, c.before.before.before.before.before.before.before.before.before.before.before.before.well-formed); held = omega (arith, c.before.before.before.before.before.before.before.before.before.before.before.before.well-formed); discarded = omega (arith, c.before.before.before.before.before.before.before.before.before.before.before.before.well-formed) }) _ (small c.before.before.before.before.before.before.before.before.before.before.before.before.args.outcome) c.before.before.before.before.before.before.before.before.before.before.before.before.args.k)
     (rw (c.before.before.before.before.before.before.before.before.outcome.given.1, refused_lines _ c.before.before.before.before.before.before.before.before.before.before.before.before.args.d c.before.before.before.before.before.before.before.before.before.before.before.before.args.memory.now (never_zero c.before.before.before.before.before.before.before.before.outcome.given.0.0), c.before.before.before.before.before.before.if1.true) (c.before.before.count-line.ensures ∙ rw c.before.before.before.before.number.ensures))
 
 returns-3 : tie.Need-returns-3
 returns-3 c =
-    put_whole _ _ _ _ (line-fits c.before.before.before.before.before.before.args.d c.before.before.before.before.before.before.args.memory.now (record { samples = omega (arith, c.before.before.before.before.before.before.well-formed); landed = omega (arith, c.before.before.before.before.before.before.well-formed); held = omega (arith, c.before.before.before.before.before.before.well-formed); discarded = omega (arith, c.before.before.before.before.before.before.well-formed) }) _ (small c.before.before.before.before.before.before.args.outcome) c.before.before.before.before.before.before.args.k)
+    put_whole _ _ _ _ (line_fits c.before.before.before.before.before.before.args.d c.before.before.before.before.before.before.args.memory.now (record { samples = omega (arith, c.before.before.before.before.before.before.well-formed); landed = omega (arith, c.before.before.before.before.before.before.well-formed); held = omega (arith, c.before.before.before.before.before.before.well-formed); discarded = omega (arith, c.before.before.before.before.before.before.well-formed) }) _ (small c.before.before.before.before.before.before.args.outcome) c.before.before.before.before.before.before.args.k)
     (rw (c.before.before.outcome.given.1, refused_lines _ c.before.before.before.before.before.before.args.d c.before.before.before.before.before.before.args.memory.now (never_zero c.before.before.outcome.given.0.0), past_one _ c.before.before.before.before.before.before.args.k c.if1.false) (sym (put_none 0 _)))
 
 pub line-spec : {M : Type 1} → statement M

@@ -5,7 +5,7 @@ use borrow.Author.Rules.{rules}
 use Prim.Native.Nat.{◌≤◌}
 use Rattle.text.proofs.Appending.{put_none}
 use Rattle.printing.specs.Printed.{report}
-use Rattle.printing.proofs.Lines.{word-at-line, no_line}
+use Rattle.printing.proofs.Lines.{word_at_line, no_line}
 use Rattle.printing.proofs.report_line.Statement.{statement}
 use Rattle.printing.proofs.report_line.Tie as tie
 
@@ -95,7 +95,7 @@ same-length-6 c = search rules
 returns-6 : tie.Need-returns-6
 returns-6 c =
     let high : 5 ≤ c.before.before.before.before.before.before.before.before.before.before.before.before.before.before.args.k = omega (arith, c.before.before.before.before.before.before.before.if5.false, c.before.before.before.before.before.before.before.before.if4.false, c.before.before.before.before.before.before.before.before.before.if3.false, c.before.before.before.before.before.before.before.before.before.before.if2.false, c.before.before.before.before.before.before.before.before.before.before.before.if1.false) in
-    c.before.before.word_line.ensures ∙ rw (c.before.before.before.before.four.ensures, word-at-line c.before.before.before.before.before.before.before.before.before.before.before.before.before.before.args.d c.before.before.before.before.before.before.before.before.before.before.before.before.before.before.args.memory.now c.before.before.before.before.before.before.before.before.before.before.before.before.before.before.args.k high c.before.before.before.before.before.if6.true)
+    c.before.before.word_line.ensures ∙ rw (c.before.before.before.before.four.ensures, word_at_line c.before.before.before.before.before.before.before.before.before.before.before.before.before.before.args.d c.before.before.before.before.before.before.before.before.before.before.before.before.before.before.args.memory.now c.before.before.before.before.before.before.before.before.before.before.before.before.before.before.args.k high c.before.before.before.before.before.if6.true)
 
 returns-7 : tie.Need-returns-7
 returns-7 c =

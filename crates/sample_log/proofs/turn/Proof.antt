@@ -55,7 +55,7 @@ use Rattle.lent.proofs.sample.Symbol as sample_def
 use Rattle.lent.proofs.sample.Symbol.{name as #sample}
 use Rattle.lent.proofs.sample.Met as sample_thm
 use Rattle.lent.proofs.Behind.{val, IsBoard, spelled, board_head, retyped, typed}
-use Rattle.lent.proofs.Lending.{to_board, Lent, board-lends, board_back}
+use Rattle.lent.proofs.Lending.{to_board, Lent, board_lends, board_back}
 use Rattle.sample_log.specs.contracts.sampled as sampled
 use Rattle.sample_log.proofs.sampled.Symbol as sampled_def
 use Rattle.sample_log.proofs.sampled.Symbol.{name as #sampled}
@@ -158,7 +158,7 @@ module _ {M : Type 1} {𝓤 : Ura M} (𝓛 : Logic 𝓤) (at_mem : Memory → SP
         assigns ! (addr ! (from ! (fld ! refl (hop ! (look_in ! 18 (sub ! 0 refl (whole !))) (stop !))))) (from ! (stop !)) (init ! 8 refl (tt, tt)) $
         assigns ! (agg ! (and_then ! (load ! (from ! (stop !)) (look ! 8 refl)) (and_then ! (load ! (from ! (fld ! refl (stop !))) (look_in ! 18 (sub ! 1 refl (whole !)))) (no_more !)))) (from ! (stop !)) (init ! 6 refl (tt, (tt, (record { fits = room.0 }, tt)))) $
         -- the board is lent, and the memory handed on
-        lft_new ! tt (λ ν. move ! (15 ∷ []) $ board-lends ! tt board_is (ν ∷ []) d d-is l₄ 0 (λ δ.
+        lft_new ! tt (λ ν. move ! (15 ∷ []) $ board_lends ! tt board_is (ν ∷ []) d d-is l₄ 0 (λ δ.
         move ! (2 ∷ 3 ∷ 0 ∷ 4 ∷ []) $ join ! $ use3 𝓛 (raw ((Sample 𝓛 at_mem run).pre (to-sample ν l₄ δ))) (sample-asks ν l₄ δ) $
         -- [what the callee asks; what is kept of the board; _10; …; the place of _4; _3; …; _2; …; _1; …; room for _0; …]
         calls_at ! fm (Sample 𝓛 at_mem run) lent-meets (to-sample ν l₄ δ) (and_then ! (load ! (from ! (stop !)) (look ! 10 refl)) (and_then ! (load ! (from ! (stop !)) (look ! 6 refl)) (and_then ! (lit ! tt) (and_then ! (load ! (from ! (stop !)) (look ! 15 refl)) (no_more !))))) (λ v.

@@ -6,7 +6,7 @@ use Rattle.laws.proofs.UnpaddedSample.{unpadded_sample_ok}
 use Rattle.output.specs.Output.{with_counts, count_sample, counted}
 use Rattle.rules.specs.Capture.{Captured}
 use Rattle.full_word.specs.Answers.{device}
-use Rattle.sampling.proofs.Ready.{more_lines, asks-grant, asks-word, stepped}
+use Rattle.sampling.proofs.Ready.{more_lines, asks_grant, asks_word, stepped}
 use Rattle.sampling.proofs.step.Statement.{statement}
 use Rattle.sampling.proofs.step.Tie as tie
 
@@ -15,7 +15,7 @@ unfolding counted count_sample with_counts
 granted-requires c κs =
     let a = c.before.before.before.before.before.args in
     let pre = c.before.before.before.before.before.requires in
-    rw c.before.before.count-sample.ensures (asks-grant (device a.d a.slots.now) a.buffer.now a.w pre.0 pre.1.0 pre.1.1.0)
+    rw c.before.before.count-sample.ensures (asks_grant (device a.d a.slots.now) a.buffer.now a.w pre.0 pre.1.0 pre.1.1.0)
 
 unpadded-sample-requires : tie.Need-unpadded-sample-requires
 unpadded-sample-requires c κs = rw c.before.before.before.before.before.before.before.before.before.apart.ensures (more_lines (omega (arith, c.before.before.before.before.before.before.before.before.before.before.before.requires.1.1.0)) c.before.before.before.before.before.before.before.before.before.before.before.requires.0.capture)
@@ -26,7 +26,7 @@ complete-requires c κs =
     let a = c.before.before.before.before.before.before.before.before.before.before.before.before.before.args in
     let pre = c.before.before.before.before.before.before.before.before.before.before.before.before.before.requires in
     let left = rw (c.before.before.before.before.before.before.before.before.before.before.count-sample.ensures, c.before.before.before.before.before.before.before.before.before.before.before.apart.ensures) at c.before.before.before.before.before.before.before.granted.ensures in
-    let (laid, counts) = asks-word (device a.d a.slots.now) a.buffer.now a.w pre.0 pre.1.0 pre.1.1.0 left in
+    let (laid, counts) = asks_word (device a.d a.slots.now) a.buffer.now a.w pre.0 pre.1.0 pre.1.1.0 left in
     let state = rw c.before.before.before.before.before.before.before.before.before.before.before.apart.ensures at (ap (λ (x : Captured). x.state) c.before.unpadded-sample.ensures) in
     (laid, (rw state (unpadded_sample_ok a.w pre.0.capture).ris, counts.0, counts.1))
 

@@ -9,7 +9,7 @@ use Rattle.board_rules.specs.TwoBuffers.{Pair, part}
 use Rattle.sampling.specs.Answers.{noted}
 use Rattle.sampling.proofs.Ready.{more_lines}
 use Rattle.two_buffers.specs.Answers.{placed, turned, pair, two}
-use Rattle.two_buffers.proofs.OneStep.{asks-well, asks-laid, asks-place, asks-tags, answers, inner, one_step}
+use Rattle.two_buffers.proofs.OneStep.{asks_well, asks_laid, asks_place, asks_tags, answers, inner, one_step}
 use Rattle.two_buffers.proofs.two_step.Statement.{statement}
 use Rattle.two_buffers.proofs.two_step.Tie as tie
 
@@ -20,7 +20,7 @@ steps-in-requires c κs =
     let x = two s.args.d s.args.slots.now s.args.a.now s.args.b.now in
     let pre = s.requires in
     rw (c.before.before.before.before.before.before.placed.ensures, c.before.before.before.before.before.before.before.oldest-place.ensures)
-    (asks-well x pre.0 pre.1.0 pre.1.1.0, (asks-laid x pre.0 pre.1.0 pre.1.1.0, pre.1.1.1))
+    (asks_well x pre.0 pre.1.0 pre.1.1.0, (asks_laid x pre.0 pre.1.0 pre.1.1.0, pre.1.1.1))
 
 -- The frame buffers after the inner sample, and what it leaves and answers.
 abbrev lent : tie.After-noted-packing → Pair
@@ -54,8 +54,8 @@ after-events-requires c κs =
     let s = c.before.before.before.before.before.before.before.before.before.before.before.before.before.before.before.before.before.before.before.before in
     let x = two s.args.d s.args.slots.now s.args.a.now s.args.b.now in
     let pre = s.requires in
-    let low = asks-place x pre.0 pre.1.0 pre.1.1.0 pre.1.1.1 in
-    let tags = asks-tags x pre.0 pre.1.0 pre.1.1.0 s.args.w in (
+    let low = asks_place x pre.0 pre.1.0 pre.1.1.0 pre.1.1.1 in
+    let tags = asks_tags x pre.0 pre.1.0 pre.1.1.0 s.args.w in (
       more_lines (omega (arith, pre.1.1.1)) pre.0.capture,
       (low, λ v e. rw (ap (λ (r : Stepped). r.landing) (is-inner c)) (tags v (sym (ap (λ (r : Stepped). r.packed) (is-inner c)) ∙ e))),
     )

@@ -7,7 +7,7 @@ use mathlib.Core.Path.{sym}
 use native.Mathlib.Omega.{arith}
 use Rattle.two_buffers.specs.Answers.{two, stepped}
 use Rattle.two_buffers.proofs.Stretching.{stretch_to}
-use Rattle.two_buffers.proofs.Turning.{Turning, starting, turning-on, turning-far, turning-end}
+use Rattle.two_buffers.proofs.Turning.{Turning, starting, turning_on, turning_far, turning_end}
 use Rattle.two_buffers.proofs.two_steps.Statement.{statement}
 use Rattle.two_buffers.proofs.two_steps.Tie as tie
 
@@ -53,7 +53,7 @@ loop-again c =
     let less = c.before.before.before.before.before.before.before.before.before.if1.true in
     let is = stretch_to c.before.before.before.before.before.before.before.before.before.before.stretch-end.ensures c.before.before.before.before.before.before.before.before.before.before.before.loop-test.true less in
     let r = c.before.before.before.before.run-stretch in
-    turning-far g (two r.result r.new.1.0 r.new.1.1.0 r.new.1.1.1.0) _ (omega (arith, less)) is.inside r.ensures r.auto.1.1.0 r.auto.1.1.1.0
+    turning_far g (two r.result r.new.1.0 r.new.1.1.0 r.new.1.1.1.0) _ (omega (arith, less)) is.inside r.ensures r.auto.1.1.0 r.auto.1.1.1.0
 
 shared-slice-read-w : tie.Need-shared-slice-read-w invariant-loop decreases-loop
 shared-slice-read-w c = omega (arith, c.before.before.before.loop-test.true)
@@ -74,7 +74,7 @@ loop-again-2 c =
     let g = c.before.before.before.before.before.before.before.before.before.before.before.before.before.loop.invariant in
     let r = c.before.before.before.before.before.two-step in
     let left = stepped r.result r.new.1.0 r.new.1.1.0 r.new.1.1.1.0 in
-    turning-on g left c.before.before.before.before.before.before.before.before.before.before.before.before.loop-test.true r.ensures r.auto.1.1.0 r.auto.1.1.1.0
+    turning_on g left c.before.before.before.before.before.before.before.before.before.before.before.before.loop-test.true r.ensures r.auto.1.1.0 r.auto.1.1.1.0
 
 same_length : tie.Need-same-length invariant-loop decreases-loop
 same_length c = c.before.loop.invariant.long_a
@@ -83,7 +83,7 @@ same-length-2 : tie.Need-same-length-2 invariant-loop decreases-loop
 same-length-2 c = c.before.loop.invariant.long_b
 
 returns : tie.Need-returns invariant-loop decreases-loop
-returns c = sym (turning-end c.before.loop.invariant c.loop-test.false)
+returns c = sym (turning_end c.before.loop.invariant c.loop-test.false)
 
 pub two-steps-spec : {M : Type 1} → statement M
 two-steps-spec =

@@ -6,8 +6,8 @@ use lib.ListN.{length, drop, length-drop}
 use lib.Seq.{length-take-le}
 use native.Mathlib.Omega.{arith}
 use Rattle.sampling.specs.Answers.{noted}
-use Rattle.sampling.proofs.DataBytes.{data-within, data-part}
-use Rattle.sampling.proofs.Going.{Going, starting, going_on, going-far, same_codes, going_end}
+use Rattle.sampling.proofs.DataBytes.{data_within, data_part}
+use Rattle.sampling.proofs.Going.{Going, starting, going_on, going_far, same_codes, going_end}
 use Rattle.sampling.proofs.coded.coded_steps.Statement.{statement}
 use Rattle.sampling.proofs.coded.coded_steps.Tie as tie
 
@@ -26,18 +26,18 @@ part-data-steps-end c =
     let l = c.before.before.before.before.before.before.before.before.loop in
     let k = c.before.before.before.before.before.data-end in
     let samples = c.before.before.before.before.before.before.before.before.before.before.before.args.samples.now in
-    data-within samples l.i l.e.capture.waiting k.result k.ensures l.invariant.within
+    data_within samples l.i l.e.capture.waiting k.result k.ensures l.invariant.within
 
 data-steps-requires : tie.Need-data-steps-requires invariant-loop decreases-loop
 data-steps-requires c κs =
     let l = c.before.before.before.before.before.before.before.before.before.loop in
     let k = c.before.before.before.before.before.before.data-end in
     let samples = c.before.before.before.before.before.before.before.before.before.before.before.before.args.samples.now in
-    let within = data-within samples l.i l.e.capture.waiting k.result k.ensures l.invariant.within in
+    let within = data_within samples l.i l.e.capture.waiting k.result k.ensures l.invariant.within in
     let more = c.before.before.before.before.before.if1.true in
     let pre = c.before.before.before.before.before.before.before.before.before.before.before.before.requires in
     let g = l.invariant in
-    let (none, all) = data-part samples l.i l.e.capture.waiting k.result k.ensures more in
+    let (none, all) = data_part samples l.i l.e.capture.waiting k.result k.ensures more in
     let long = length-take-le (k.result - l.i) (drop l.i samples) (rw length-drop (omega (arith, within))) in
     (g.well, (g.laid, (omega (arith, long, g.count, more, within, pre.1.1.0), (same_codes g ∙ pre.1.1.1, none, all))))
 
@@ -46,7 +46,7 @@ loop-less c =
     let l = c.before.before.before.before.before.before.before.before.before.before.before.before.loop in
     let k = c.before.before.before.before.before.before.before.before.before.data-end in
     let samples = c.before.before.before.before.before.before.before.before.before.before.before.before.before.before.before.args.samples.now in
-    let within = data-within samples l.i l.e.capture.waiting k.result k.ensures l.invariant.within in
+    let within = data_within samples l.i l.e.capture.waiting k.result k.ensures l.invariant.within in
     omega (arith, c.before.before.before.before.before.before.before.before.if1.true, within)
 
 loop-again : tie.Need-loop-preserved invariant-loop decreases-loop
@@ -54,9 +54,9 @@ loop-again c =
     let l = c.before.before.before.before.before.before.before.before.before.before.before.before.loop in
     let k = c.before.before.before.before.before.before.before.before.before.data-end in
     let samples = c.before.before.before.before.before.before.before.before.before.before.before.before.before.before.before.args.samples.now in
-    let within = data-within samples l.i l.e.capture.waiting k.result k.ensures l.invariant.within in
+    let within = data_within samples l.i l.e.capture.waiting k.result k.ensures l.invariant.within in
     let more = c.before.before.before.before.before.before.before.before.if1.true in
-    going-far l.invariant _ _ (omega (arith, more)) within c.before.before.data-steps.ensures c.before.before.data-steps.auto.1.1.0
+    going_far l.invariant _ _ (omega (arith, more)) within c.before.before.data-steps.ensures c.before.before.data-steps.auto.1.1.0
 
 coded-step-requires : tie.Need-coded-step-requires invariant-loop decreases-loop
 coded-step-requires c κs =

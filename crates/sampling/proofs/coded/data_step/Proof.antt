@@ -6,7 +6,7 @@ use Rattle.laws.proofs.Sampled.{sample_ok}
 use Rattle.output.specs.Output.{with_counts, count_sample, counted}
 use Rattle.rules.specs.Capture.{Captured}
 use Rattle.full_word.specs.Answers.{device}
-use Rattle.sampling.proofs.Ready.{more_lines, asks-grant, asks-word, stepped_coded}
+use Rattle.sampling.proofs.Ready.{more_lines, asks_grant, asks_word, stepped_coded}
 use Rattle.sampling.proofs.coded.data_step.Statement.{statement}
 use Rattle.sampling.proofs.coded.data_step.Tie as tie
 
@@ -16,7 +16,7 @@ granted-requires c κs =
     let a = c.before.before.before.before.before.args in
     let pre = c.before.before.before.before.before.requires in
     rw c.before.before.count-sample.ensures
-    (asks-grant (device a.d a.slots.now) a.buffer.now a.w pre.0 pre.1.0 pre.1.1.0)
+    (asks_grant (device a.d a.slots.now) a.buffer.now a.w pre.0 pre.1.0 pre.1.1.0)
 
 data-sample-requires : tie.Need-data-sample-requires
 data-sample-requires c κs =
@@ -31,7 +31,7 @@ complete-requires c κs =
     let a = e.before.before.before.before.before.before.args in
     let pre = e.before.before.before.before.before.before.requires in
     let left = rw (e.before.before.before.count-sample.ensures, e.before.before.before.before.apart.ensures) at e.granted.ensures in
-    let (laid, counts) = asks-word (device a.d a.slots.now) a.buffer.now a.w pre.0 pre.1.0 pre.1.1.0 left in
+    let (laid, counts) = asks_word (device a.d a.slots.now) a.buffer.now a.w pre.0 pre.1.0 pre.1.1.0 left in
     let state = rw e.before.before.before.before.apart.ensures at (ap (λ (x : Captured). x.state) c.before.data-sample.ensures) in
     (laid, (rw state (sample_ok a.w pre.0.capture).ris, counts.0, counts.1))
 

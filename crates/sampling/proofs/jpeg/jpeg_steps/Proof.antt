@@ -7,8 +7,8 @@ use lib.Seq.{length-take-le}
 use native.Mathlib.Omega.{arith}
 use Rattle.full_word.specs.Answers.{device}
 use Rattle.sampling.specs.Answers.{noted}
-use Rattle.sampling.proofs.Going.{Going, starting, going_on, going-far, going_end, plain_still}
-use Rattle.sampling.proofs.Stretches.{stretch-within, stretch-unpadded}
+use Rattle.sampling.proofs.Going.{Going, starting, going_on, going_far, going_end, plain_still}
+use Rattle.sampling.proofs.Stretches.{stretch_within, stretch_unpadded}
 use Rattle.sampling.proofs.jpeg.jpeg_steps.Statement.{statement}
 use Rattle.sampling.proofs.jpeg.jpeg_steps.Tie as tie
 
@@ -45,17 +45,17 @@ stretch-requires c κs = c.before.before.before.before.loop-test.true
 
 sub-unpadded-steps : tie.Need-overflow-sub-unpadded-steps invariant-loop decreases-loop
 sub-unpadded-steps c =
-    let within = stretch-within (device c.before.before.before.before.before.before.before.before.before.before.loop.e c.before.before.before.before.before.before.before.before.before.before.loop.slots) c.before.before.before.before.before.before.before.before.before.before.loop.buffer c.before.before.before.before.before.before.before.before.before.before.before.before.before.args.samples.now c.before.before.before.before.before.before.before.before.before.before.loop.i c.before.before.before.before.before.before.before.before.before.loop-test.true in
+    let within = stretch_within (device c.before.before.before.before.before.before.before.before.before.before.loop.e c.before.before.before.before.before.before.before.before.before.before.loop.slots) c.before.before.before.before.before.before.before.before.before.before.loop.buffer c.before.before.before.before.before.before.before.before.before.before.before.before.before.args.samples.now c.before.before.before.before.before.before.before.before.before.before.loop.i c.before.before.before.before.before.before.before.before.before.loop-test.true in
     rw c.before.before.before.before.stretch.ensures (omega (arith, within.0))
 
 part-unpadded-steps-start : tie.Need-slice-bounds-unpadded-steps-start invariant-loop decreases-loop
 part-unpadded-steps-start c =
-    let within = stretch-within (device c.before.before.before.before.before.before.before.before.before.before.loop.e c.before.before.before.before.before.before.before.before.before.before.loop.slots) c.before.before.before.before.before.before.before.before.before.before.loop.buffer c.before.before.before.before.before.before.before.before.before.before.before.before.before.args.samples.now c.before.before.before.before.before.before.before.before.before.before.loop.i c.before.before.before.before.before.before.before.before.before.loop-test.true in
+    let within = stretch_within (device c.before.before.before.before.before.before.before.before.before.before.loop.e c.before.before.before.before.before.before.before.before.before.before.loop.slots) c.before.before.before.before.before.before.before.before.before.before.loop.buffer c.before.before.before.before.before.before.before.before.before.before.before.before.before.args.samples.now c.before.before.before.before.before.before.before.before.before.before.loop.i c.before.before.before.before.before.before.before.before.before.loop-test.true in
     rw c.before.before.before.before.stretch.ensures (omega (arith, within.0))
 
 part-unpadded-steps-end : tie.Need-slice-bounds-unpadded-steps-end invariant-loop decreases-loop
 part-unpadded-steps-end c =
-    let within = stretch-within (device c.before.before.before.before.before.before.before.before.before.before.loop.e c.before.before.before.before.before.before.before.before.before.before.loop.slots) c.before.before.before.before.before.before.before.before.before.before.loop.buffer c.before.before.before.before.before.before.before.before.before.before.before.before.before.args.samples.now c.before.before.before.before.before.before.before.before.before.before.loop.i c.before.before.before.before.before.before.before.before.before.loop-test.true in
+    let within = stretch_within (device c.before.before.before.before.before.before.before.before.before.before.loop.e c.before.before.before.before.before.before.before.before.before.before.loop.slots) c.before.before.before.before.before.before.before.before.before.before.loop.buffer c.before.before.before.before.before.before.before.before.before.before.before.before.before.args.samples.now c.before.before.before.before.before.before.before.before.before.before.loop.i c.before.before.before.before.before.before.before.before.before.loop-test.true in
     rw c.before.before.before.before.stretch.ensures (omega (arith, within.1))
 
 unpadded-steps-requires : tie.Need-unpadded-steps-requires invariant-loop decreases-loop
@@ -63,19 +63,19 @@ unpadded-steps-requires c κs =
     let g = c.before.before.before.before.before.before.before.before.before.before.before.loop.invariant in
     let d = device c.before.before.before.before.before.before.before.before.before.before.before.loop.e c.before.before.before.before.before.before.before.before.before.before.before.loop.slots in
     let none = rw c.before.before.before.before.before.before.if1.false at c.before.before.before.before.before.before.before.pads.ensures in
-    let within = stretch-within (device c.before.before.before.before.before.before.before.before.before.before.before.loop.e c.before.before.before.before.before.before.before.before.before.before.before.loop.slots) c.before.before.before.before.before.before.before.before.before.before.before.loop.buffer c.before.before.before.before.before.before.before.before.before.before.before.before.before.before.args.samples.now c.before.before.before.before.before.before.before.before.before.before.before.loop.i c.before.before.before.before.before.before.before.before.before.before.loop-test.true in
+    let within = stretch_within (device c.before.before.before.before.before.before.before.before.before.before.before.loop.e c.before.before.before.before.before.before.before.before.before.before.before.loop.slots) c.before.before.before.before.before.before.before.before.before.before.before.loop.buffer c.before.before.before.before.before.before.before.before.before.before.before.before.before.before.args.samples.now c.before.before.before.before.before.before.before.before.before.before.before.loop.i c.before.before.before.before.before.before.before.before.before.before.loop-test.true in
     let long = length-take-le (c.before.before.before.before.before.stretch.result - c.before.before.before.before.before.before.before.before.before.before.before.loop.i) (drop c.before.before.before.before.before.before.before.before.before.before.before.loop.i c.before.before.before.before.before.before.before.before.before.before.before.before.before.before.args.samples.now) (rw (length-drop, c.before.before.before.before.before.stretch.ensures) (omega (arith, within.1))) in
-    (g.well, (g.laid, (omega (arith, long, g.count, c.before.before.before.before.before.stretch.ensures, within.0, within.1, c.before.before.before.before.before.before.before.before.before.before.before.before.before.before.requires.1.1.0), rw c.before.before.before.before.before.stretch.ensures (stretch-unpadded d c.before.before.before.before.before.before.before.before.before.before.before.loop.buffer c.before.before.before.before.before.before.before.before.before.before.before.before.before.before.args.samples.now c.before.before.before.before.before.before.before.before.before.before.before.loop.i c.before.before.before.before.before.before.before.before.before.before.loop-test.true (plain_still g c.before.before.before.before.before.before.before.before.before.before.before.before.before.before.requires.1.1.1, none)))))
+    (g.well, (g.laid, (omega (arith, long, g.count, c.before.before.before.before.before.stretch.ensures, within.0, within.1, c.before.before.before.before.before.before.before.before.before.before.before.before.before.before.requires.1.1.0), rw c.before.before.before.before.before.stretch.ensures (stretch_unpadded d c.before.before.before.before.before.before.before.before.before.before.before.loop.buffer c.before.before.before.before.before.before.before.before.before.before.before.before.before.before.args.samples.now c.before.before.before.before.before.before.before.before.before.before.before.loop.i c.before.before.before.before.before.before.before.before.before.before.loop-test.true (plain_still g c.before.before.before.before.before.before.before.before.before.before.before.before.before.before.requires.1.1.1, none)))))
 
 loop-less-2 : tie.Need-loop-smaller-2 invariant-loop decreases-loop
 loop-less-2 c =
-    let within = stretch-within (device c.before.before.before.before.before.before.before.before.before.before.before.before.before.before.loop.e c.before.before.before.before.before.before.before.before.before.before.before.before.before.before.loop.slots) c.before.before.before.before.before.before.before.before.before.before.before.before.before.before.loop.buffer c.before.before.before.before.before.before.before.before.before.before.before.before.before.before.before.before.before.args.samples.now c.before.before.before.before.before.before.before.before.before.before.before.before.before.before.loop.i c.before.before.before.before.before.before.before.before.before.before.before.before.before.loop-test.true in
+    let within = stretch_within (device c.before.before.before.before.before.before.before.before.before.before.before.before.before.before.loop.e c.before.before.before.before.before.before.before.before.before.before.before.before.before.before.loop.slots) c.before.before.before.before.before.before.before.before.before.before.before.before.before.before.loop.buffer c.before.before.before.before.before.before.before.before.before.before.before.before.before.before.before.before.before.args.samples.now c.before.before.before.before.before.before.before.before.before.before.before.before.before.before.loop.i c.before.before.before.before.before.before.before.before.before.before.before.before.before.loop-test.true in
     rw c.before.before.before.before.before.before.before.before.stretch.ensures (omega (arith, within.0, within.1))
 
 loop-again-2 : tie.Need-loop-preserved-2 invariant-loop decreases-loop
 loop-again-2 c =
-    let within = stretch-within (device c.before.before.before.before.before.before.before.before.before.before.before.before.before.before.loop.e c.before.before.before.before.before.before.before.before.before.before.before.before.before.before.loop.slots) c.before.before.before.before.before.before.before.before.before.before.before.before.before.before.loop.buffer c.before.before.before.before.before.before.before.before.before.before.before.before.before.before.before.before.before.args.samples.now c.before.before.before.before.before.before.before.before.before.before.before.before.before.before.loop.i c.before.before.before.before.before.before.before.before.before.before.before.before.before.loop-test.true in
-    going-far c.before.before.before.before.before.before.before.before.before.before.before.before.before.before.loop.invariant _ _ (rw c.before.before.before.before.before.before.before.before.stretch.ensures (omega (arith, within.0))) (rw c.before.before.before.before.before.before.before.before.stretch.ensures within.1) c.before.before.unpadded-steps.ensures c.before.before.unpadded-steps.auto.1.1.0
+    let within = stretch_within (device c.before.before.before.before.before.before.before.before.before.before.before.before.before.before.loop.e c.before.before.before.before.before.before.before.before.before.before.before.before.before.before.loop.slots) c.before.before.before.before.before.before.before.before.before.before.before.before.before.before.loop.buffer c.before.before.before.before.before.before.before.before.before.before.before.before.before.before.before.before.before.args.samples.now c.before.before.before.before.before.before.before.before.before.before.before.before.before.before.loop.i c.before.before.before.before.before.before.before.before.before.before.before.before.before.loop-test.true in
+    going_far c.before.before.before.before.before.before.before.before.before.before.before.before.before.before.loop.invariant _ _ (rw c.before.before.before.before.before.before.before.before.stretch.ensures (omega (arith, within.0))) (rw c.before.before.before.before.before.before.before.before.stretch.ensures within.1) c.before.before.unpadded-steps.ensures c.before.before.unpadded-steps.auto.1.1.0
 
 same_length : tie.Need-same-length invariant-loop decreases-loop
 same_length c = c.before.loop.invariant.long

@@ -3,7 +3,7 @@ use borrow.Author.Rules.{rules}
 use native.Mathlib.Omega.{arith}
 use Rattle.output.specs.Output.{with_counts, count_sample, counted}
 use Rattle.full_word.specs.Answers.{device}
-use Rattle.sampling.proofs.Ready.{more_lines, asks-grant, asks-word, ended_fits, stepped_padded}
+use Rattle.sampling.proofs.Ready.{more_lines, asks_grant, asks_word, ended_fits, stepped_padded}
 use Rattle.sampling.proofs.jpeg.padded_step.Statement.{statement}
 use Rattle.sampling.proofs.jpeg.padded_step.Tie as tie
 
@@ -12,7 +12,7 @@ unfolding counted count_sample with_counts
 granted-requires c κs =
     let a = c.before.before.before.before.before.args in
     let pre = c.before.before.before.before.before.requires in
-    rw c.before.before.count-sample.ensures (asks-grant (device a.d a.slots.now) a.buffer.now a.w pre.0 pre.1.0 pre.1.1.0)
+    rw c.before.before.count-sample.ensures (asks_grant (device a.d a.slots.now) a.buffer.now a.w pre.0 pre.1.0 pre.1.1.0)
 
 padded-sample-requires : tie.Need-padded-sample-requires
 padded-sample-requires c κs = let pre = c.before.before.before.before.before.before.before.before.before.before.before.requires in rw c.before.before.before.before.before.before.before.before.before.apart.ensures (more_lines (omega (arith, pre.1.1.0)) pre.0.capture)
@@ -23,7 +23,7 @@ padded-word-requires c κs =
     let a = c.before.before.before.before.before.before.before.before.before.before.before.before.before.args in
     let pre = c.before.before.before.before.before.before.before.before.before.before.before.before.before.requires in
     let left = rw (c.before.before.before.before.before.before.before.before.before.before.count-sample.ensures, c.before.before.before.before.before.before.before.before.before.before.before.apart.ensures) at c.before.before.before.before.before.before.before.granted.ensures in
-    let (laid, counts) = asks-word (device a.d a.slots.now) a.buffer.now a.w pre.0 pre.1.0 pre.1.1.0 left in
+    let (laid, counts) = asks_word (device a.d a.slots.now) a.buffer.now a.w pre.0 pre.1.0 pre.1.1.0 left in
     let state = rw c.before.before.before.before.before.before.before.before.before.before.before.apart.ensures at c.before.padded-sample.ensures in
     (laid, (rw state (ended_fits a.w _ pre.0.capture pre.1.1.1.0 pre.1.1.1.1), counts.0, counts.1))
 

@@ -5,8 +5,8 @@ use Rattle.board_rules.specs.TwoBuffers.{Pair, part}
 use Rattle.sampling.specs.Notes.{Noted}
 use Rattle.sampling.specs.Answers.{noted}
 use Rattle.two_buffers.specs.Answers.{placed, pair, two}
-use Rattle.two_buffers.proofs.OneStep.{asks-well, asks-laid}
-use Rattle.two_buffers.proofs.Stretching.{run-held, behind-run}
+use Rattle.two_buffers.proofs.OneStep.{asks_well, asks_laid}
+use Rattle.two_buffers.proofs.Stretching.{run_held, behind_run}
 use Rattle.two_buffers.proofs.stretches.run_behind.Statement.{statement}
 use Rattle.two_buffers.proofs.stretches.run_behind.Tie as tie
 
@@ -17,7 +17,7 @@ steps-in-requires c κs =
     let x = two s.args.d s.args.slots.now s.args.a.now s.args.b.now in
     let pre = s.requires in
     rw (c.before.before.before.before.before.placed.ensures, c.before.before.before.before.before.before.oldest-place.ensures)
-    (asks-well x pre.0 pre.1.0 pre.1.1.0, (asks-laid x pre.0 pre.1.0 pre.1.1.0, pre.1.1.1.0))
+    (asks_well x pre.0 pre.1.0 pre.1.1.0, (asks_laid x pre.0 pre.1.0 pre.1.1.0, pre.1.1.1.0))
 
 -- The frame buffers after the run, and what it leaves.
 abbrev lent : tie.After-struct-known2 → Pair
@@ -34,7 +34,7 @@ turns-behind-requires c κs =
     let s = run.before.before.before.before.before.before.before.before.before.before.before.before.before.before in
     let x = two s.args.d s.args.slots.now s.args.a.now s.args.b.now in
     let pre = s.requires in
-    (run-held x pre.1.1.0 s.args.samples.now _ _ (run-left c) run.before.before.before.before.before.before.before.before.oldest-buffer.ensures run.before.before.before.before.before.before.before.oldest-place.ensures run.before.before.before.before.before.before.placed.ensures run.steps-in.ensures.0, pre.1.0.buffers, pre.1.0.opening)
+    (run_held x pre.1.1.0 s.args.samples.now _ _ (run-left c) run.before.before.before.before.before.before.before.before.oldest-buffer.ensures run.before.before.before.before.before.before.before.oldest-place.ensures run.before.before.before.before.before.before.placed.ensures run.steps-in.ensures.0, pre.1.0.buffers, pre.1.0.opening)
 
 returns : tie.Need-returns
 unfolding placed
@@ -44,7 +44,7 @@ returns c =
     let x = two s.args.d s.args.slots.now s.args.a.now s.args.b.now in
     let pre = s.requires in
     rw c.placed2.ensures
-    (behind-run x pre.0 pre.1.0 pre.1.1.0 s.args.samples.now pre.1.1.1.1.1 _ _ (run-left c.before.before) (lent c.before.before) pre.1.1.1.1.0
+    (behind_run x pre.0 pre.1.0 pre.1.1.0 s.args.samples.now pre.1.1.1.1.1 _ _ (run-left c.before.before) (lent c.before.before) pre.1.1.1.1.0
     run.before.before.before.before.before.before.before.before.oldest-buffer.ensures run.before.before.before.before.before.before.before.oldest-place.ensures run.before.before.before.before.before.before.placed.ensures
     run.steps-in.ensures.0 run.steps-in.ensures.1 c.before.turns-behind.ensures)
 

@@ -5,7 +5,7 @@ use Rattle.board_rules.specs.TwoBuffers.{Pair, part}
 use Rattle.sampling.specs.Notes.{Noted}
 use Rattle.sampling.specs.Answers.{noted}
 use Rattle.two_buffers.specs.Answers.{placed, pair, two}
-use Rattle.two_buffers.proofs.Stretching.{run-well, run-laid, run-held, stretch-run}
+use Rattle.two_buffers.proofs.Stretching.{run_well, run_laid, run_held, stretch_run}
 use Rattle.two_buffers.proofs.stretches.run_on.Statement.{statement}
 use Rattle.two_buffers.proofs.stretches.run_on.Tie as tie
 
@@ -16,7 +16,7 @@ steps-in-requires c κs =
     let x = two s.args.d s.args.slots.now s.args.a.now s.args.b.now in
     let pre = s.requires in
     rw (c.before.before.before.before.before.placed.ensures, c.before.before.before.before.before.before.first-place.ensures)
-    (run-well x pre.0 pre.1.0 pre.1.1.0, (run-laid x pre.0 pre.1.0 pre.1.1.0, pre.1.1.1.0))
+    (run_well x pre.0 pre.1.0 pre.1.1.0, (run_laid x pre.0 pre.1.0 pre.1.1.0, pre.1.1.1.0))
 
 -- The frame buffers after the run, and what it leaves.
 abbrev lent : tie.After-struct-known2 → Pair
@@ -32,7 +32,7 @@ turns-after-requires c κs =
     let s = c.before.before.before.before.before.before.before.before.before.before.before.before.before.before.before.before.before.before.before.before.before in
     let x = two s.args.d s.args.slots.now s.args.a.now s.args.b.now in
     let pre = s.requires in
-    run-held x pre.1.1.0 s.args.samples.now _ _ (run-left c) c.before.before.before.before.before.before.before.before.before.before.before.before.before.before.before.next-buffer.ensures c.before.before.before.before.before.before.before.before.before.before.before.before.before.before.first-place.ensures c.before.before.before.before.before.before.before.before.before.before.before.before.before.placed.ensures c.before.before.before.before.before.before.before.steps-in.ensures.0
+    run_held x pre.1.1.0 s.args.samples.now _ _ (run-left c) c.before.before.before.before.before.before.before.before.before.before.before.before.before.before.before.next-buffer.ensures c.before.before.before.before.before.before.before.before.before.before.before.before.before.before.first-place.ensures c.before.before.before.before.before.before.before.before.before.before.before.before.before.placed.ensures c.before.before.before.before.before.before.before.steps-in.ensures.0
 
 returns : tie.Need-returns
 unfolding placed
@@ -42,7 +42,7 @@ returns c =
     let x = two s.args.d s.args.slots.now s.args.a.now s.args.b.now in
     let pre = s.requires in
     rw c.placed2.ensures
-    (stretch-run x pre.0 pre.1.0 pre.1.1.0 s.args.samples.now pre.1.1.1.1.1 _ _ (run-left c.before.before.before) (lent c.before.before.before) pre.1.1.1.1.0
+    (stretch_run x pre.0 pre.1.0 pre.1.1.0 s.args.samples.now pre.1.1.1.1.1 _ _ (run-left c.before.before.before) (lent c.before.before.before) pre.1.1.1.1.0
     before.before.before.before.before.before.before.before.before.next-buffer.ensures before.before.before.before.before.before.before.before.first-place.ensures before.before.before.before.before.before.before.placed.ensures
     before.steps-in.ensures.0 before.steps-in.ensures.1 c.before.before.turns-after.ensures c.before.place_a.ensures)
 
