@@ -10,7 +10,7 @@ loop-i-init c = (refl, refl)
 pub loop-i-preserved : goal.loop-i-preserved
 loop-i-preserved c = let l = c.loop-i in (
       put_on _ _ _ _ _ l.invariant.0 _ _ c.loop-i-test.true c.put_byte-place.ensures,
-      c.put_byte-place.auto.1.0 ∙ l.invariant.1,
+      c.put_byte-place.auto.buffer ∙ l.invariant.1,
     )
 
 pub shape_of-buffer : goal.shape_of-buffer
