@@ -9,7 +9,7 @@ use Rattle.rules.specs.State.{with_partial}
 use Rattle.capture.proofs.pack.Goals as goal
 
 pub joined-bits-requires : goal.joined-bits-requires
-joined-bits-requires c = rw c.edm-edm.ensures (edm_most c.args.s.registers.cr, c.requires)
+joined-bits-requires c = rw c.edm-edm.ensures (record { edm_bound = edm_most c.args.s.registers.cr; joins = c.requires })
 
 pub overflow_add-count : goal.overflow_add-count
 overflow_add-count c = omega (arith, few_data (edm c.args.s.registers.cr), c.requires.0)

@@ -14,7 +14,7 @@ frame_start-started-requires c = omega (arith, c.requires.rate, short_period c.a
 pub pixel_in-c-requires : goal.pixel_in-c-requires
 pixel_in-c-requires c = let s = frame_start c.args.s not_blanking in
     let ok = (frame_start_kept c.args.s not_blanking).ok _ c.requires in
-    rw c.frame_start-started.ensures ((omega (arith, ok.lines), omega (arith, ok.pixels)), datum_joins s c.args.datum ok)
+    rw c.frame_start-started.ensures (record { frame_bound = (omega (arith, ok.lines), omega (arith, ok.pixels)); joins = datum_joins s c.args.datum ok })
 
 pub returns : goal.returns
 unfolding with_syncs

@@ -9,7 +9,7 @@ use Rattle.device_words.proofs.device_of.Goals as goal
 
 pub returns : goal.returns
 unfolding device_of
-returns c = let w = c.args.t1 in
+returns c = let w = c.args.w in
     let all : length (take slot_count (drop slot w)) ≡ slot_count = rw (length-take, length-drop) (omega arith) in
     rw (
       c.put.ensures,

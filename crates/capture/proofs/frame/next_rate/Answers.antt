@@ -3,9 +3,8 @@ use Rattle.laws.proofs.Kept.{period_positive}
 use Rattle.rules.specs.Capture.{next_rate}
 use Rattle.capture.proofs.frame.next_rate.Goals as goal
 
--- LOST nonzero-rem-result
-rem-result : tie.Need-nonzero-rem-result
-rem-result c = rw c.rate-period.ensures (period_positive _)
+pub nonzero_rem-result : goal.nonzero_rem-result
+nonzero_rem-result c = rw c.rate_period.ensures (period_positive _)
 
 pub returns-then-snapshot : goal.returns-then-snapshot
 unfolding next_rate
