@@ -9,9 +9,9 @@ use Rattle.sampling.proofs.Ready.{ready}
 use Rattle.sampling.proofs.run.Goals as goal
 
 pub steps-core-requires : goal.steps-core-requires
-steps-core-requires c = let all : length c.args.d.slots ≡ slot_count = rw length-map at c.well_formed.0.1.1.1.0.1.0.1 in
+steps-core-requires c = let all : length c.args.d.slots ≡ slot_count = c.well_formed.0.1.1.1.0.1.0.1 in
     let (well, laid) = ready c.args.d all c.requires.d_value in
-        (well, (laid, c.requires.samples_bound))
+    record { well_formed = well; laid = laid; samples_bound = c.requires.samples_bound }
 
 pub returns : goal.returns
 returns c = ap (λ (n : Noted). ran n.device n.buffer) c.steps-core.ensures ∙ same_run _ _

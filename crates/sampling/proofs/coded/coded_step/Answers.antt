@@ -11,28 +11,25 @@ use Rattle.sampling.proofs.coded.coded_step.Goals as goal
 pub granted-g-requires : goal.granted-g-requires
 unfolding counted count_sample with_counts
 granted-g-requires c = let a = c.args in
-    let pre = c.requires in
-    rw c.count_sample-counted.ensures
-    (asks_grant (device a.d a.slots.now) a.buffer.now a.w pre.0 pre.1.0 pre.1.1.0)
+    let asked = asks_grant (device a.d a.slots.now) a.buffer.now a.w c.requires.well_formed c.requires.laid c.requires.samples_bound in
+    rw c.count_sample-counted.ensures (record { laid = asked.0; place_bound = asked.1 })
 
 pub coded_sample-requires : goal.coded_sample-requires
-coded_sample-requires c = let pre = c.requires in
-    rw c.apart-s.ensures
-    (more_lines (omega (arith, pre.1.1.0)) pre.0.capture, pre.1.1.1)
+coded_sample-requires c = rw c.apart-s.ensures
+    (record { capture_ok = more_lines (omega (arith, c.requires.samples_bound)) c.requires.well_formed.capture; cr_value = c.requires.cr_value })
 
 pub complete_coded-c-requires : goal.complete_coded-c-requires
 unfolding counted
 complete_coded-c-requires c = let a = c.args in
-    let pre = c.requires in
     let left = rw (c.count_sample-counted.ensures, c.apart-s.ensures) at c.granted-g.ensures in
-    let (laid, counts) = asks_word (device a.d a.slots.now) a.buffer.now a.w pre.0 pre.1.0 pre.1.1.0 left in
+    let (laid, counts) = asks_word (device a.d a.slots.now) a.buffer.now a.w c.requires.well_formed c.requires.laid c.requires.samples_bound left in
     let state = rw c.apart-s.ensures at (ap (λ (x : Captured). x.state) c.coded_sample.ensures) in
-    record { laid = laid; ris_bound = (rw state (sample_ok a.w pre.0.capture).ris, counts.0, counts.1) }
+    record { laid = laid; ris_bound = (rw state (sample_ok a.w c.requires.well_formed.capture).ris, counts.0, counts.1) }
 
 pub returns : goal.returns
 unfolding counted
 returns c = let a = c.args in
     let left = rw (c.count_sample-counted.ensures, c.apart-s.ensures) at c.granted-g.ensures in
     let s = rw c.apart-s.ensures at c.coded_sample.ensures in
-    rw (c.note_landing.ensures, c.note_packing.ensures)
+        rw (c.note_landing.ensures, c.note_packing.ensures)
     (stepped_coded (device a.d a.slots.now) a.buffer.now a.landings.now a.words.now a.w left s c.complete_coded-c.ensures)

@@ -7,16 +7,14 @@ use Rattle.sampling.proofs.Going.{starting, going_on, same_codes, going_end}
 use Rattle.sampling.proofs.coded.data_steps.Goals as goal
 
 pub loop-i-init : goal.loop-i-init
-loop-i-init c = let pre = c.requires in
-    let (coded, none, left) = pre.1.1.1 in
-        (starting _ _ pre.0 pre.1.0, none, left)
+loop-i-init c = let (coded, none, left) = c.requires.cr_value in
+        (starting _ _ c.requires.well_formed c.requires.laid, none, left)
 
 pub data_step-e-requires : goal.data_step-e-requires
 data_step-e-requires c = let (g, none, left) = c.loop-i.invariant in
     let inside = c.loop-i-test.true in
-    let pre = c.requires in
-    let (coded, first, all) = pre.1.1.1 in
-        (g.well, (g.laid, (omega (arith, g.count, inside, pre.1.1.0), (same_codes g ∙ coded, none, first_datum _ _ inside left))))
+    let (coded, first, all) = c.requires.cr_value in
+    record { well_formed = g.well; laid = g.laid; samples_bound = omega (arith, g.count, inside, c.requires.samples_bound); cr_value = (same_codes g ∙ coded, none, first_datum _ _ inside left) }
 
 pub overflow_add-i : goal.overflow_add-i
 overflow_add-i c = omega (arith, c.loop-i-test.true, c.well_formed)
@@ -27,9 +25,9 @@ loop-i-smaller c = omega (arith, c.loop-i-test.true)
 pub loop-i-preserved : goal.loop-i-preserved
 loop-i-preserved c = let (g, none, left) = c.loop-i.invariant in
     let inside = c.loop-i-test.true in
-    let (coded, first, all) = c.requires.laid.1.1 in
+    let (coded, first, all) = c.requires.cr_value in
     let to = c.data_step-e.ensures in
-        (going_on g _ inside to c.data_step-e.auto.1.1.0, still_none _ _ _ (same_codes g ∙ coded) none (first_datum _ _ inside left) to, rest_data _ _ inside left)
+        (going_on g _ inside to c.data_step-e.auto.buffer, still_none _ _ _ (same_codes g ∙ coded) none (first_datum _ _ inside left) to, rest_data _ _ inside left)
 
 pub shape_of-buffer : goal.shape_of-buffer
 shape_of-buffer c = c.loop-i.invariant.0.long

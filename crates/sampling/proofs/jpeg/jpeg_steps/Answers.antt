@@ -10,7 +10,7 @@ use Rattle.sampling.proofs.Stretches.{stretch_within, stretch_unpadded}
 use Rattle.sampling.proofs.jpeg.jpeg_steps.Goals as goal
 
 pub loop-i-init : goal.loop-i-init
-loop-i-init c = let pre = c.requires in starting _ _ pre.0 pre.1.0
+loop-i-init c = starting _ _ c.requires.well_formed c.requires.laid
 
 pub bounds-samples-i : goal.bounds-samples-i
 bounds-samples-i c = omega (arith, c.loop-i-test.true)
@@ -18,7 +18,7 @@ bounds-samples-i c = omega (arith, c.loop-i-test.true)
 pub padded_step-e-requires : goal.padded_step-e-requires
 padded_step-e-requires c = let g = c.loop-i.invariant in
     let pads = rw c.if-pads.true at c.pads.ensures in
-        (g.well, (g.laid, (omega (arith, g.count, c.loop-i-test.true, c.requires.laid.1.0), (plain_still g c.requires.laid.1.1, pads))))
+    record { well_formed = g.well; laid = g.laid; samples_bound = omega (arith, g.count, c.loop-i-test.true, c.requires.samples_bound); cr_value = (plain_still g c.requires.cr_value, pads) }
 
 pub overflow_add-i : goal.overflow_add-i
 overflow_add-i c = omega (arith, c.loop-i-test.true, c.well_formed)
@@ -27,14 +27,22 @@ pub loop-i-smaller-then-pads : goal.loop-i-smaller-then-pads
 loop-i-smaller-then-pads c = omega (arith, c.loop-i-test.true)
 
 pub loop-i-preserved-then-pads : goal.loop-i-preserved-then-pads
-loop-i-preserved-then-pads c = going_on c.loop-i.invariant _ c.loop-i-test.true c.padded_step-e.ensures c.padded_step-e.auto.1.1.0
+loop-i-preserved-then-pads c = going_on c.loop-i.invariant _ c.loop-i-test.true c.padded_step-e.ensures c.padded_step-e.auto.buffer
 
 pub stretch-k-requires : goal.stretch-k-requires
 stretch-k-requires c = c.loop-i-test.true
 
 pub slice_bounds-unpadded_steps-count : goal.slice_bounds-unpadded_steps-count
 slice_bounds-unpadded_steps-count c = let within = stretch_within (device c.loop-i.e c.loop-i.slots) c.loop-i.buffer c.args.samples.now c.loop-i.i c.loop-i-test.true in
-    rw c.stretch-k.ensures (omega (arith, within.0))
+        rw c.stretch-k.ensures (omega (arith, within.0))
+
+pub slice_bounds-unpadded_steps-start : goal.slice_bounds-unpadded_steps-start
+slice_bounds-unpadded_steps-start c = let within = stretch_within (device c.loop-i.e c.loop-i.slots) c.loop-i.buffer c.args.samples.now c.loop-i.i c.loop-i-test.true in
+        rw c.stretch-k.ensures (omega (arith, within.0))
+
+pub slice_bounds-unpadded_steps-end : goal.slice_bounds-unpadded_steps-end
+slice_bounds-unpadded_steps-end c = let within = stretch_within (device c.loop-i.e c.loop-i.slots) c.loop-i.buffer c.args.samples.now c.loop-i.i c.loop-i-test.true in
+        rw c.stretch-k.ensures (omega (arith, within.1))
 
 pub unpadded_steps-e-requires : goal.unpadded_steps-e-requires
 unpadded_steps-e-requires c = let g = c.loop-i.invariant in
@@ -42,15 +50,15 @@ unpadded_steps-e-requires c = let g = c.loop-i.invariant in
     let none = rw c.if-pads.false at c.pads.ensures in
     let within = stretch_within (device c.loop-i.e c.loop-i.slots) c.loop-i.buffer c.args.samples.now c.loop-i.i c.loop-i-test.true in
     let long = length-take-le (c.stretch-k.result - c.loop-i.i) (drop c.loop-i.i c.args.samples.now) (rw (length-drop, c.stretch-k.ensures) (omega (arith, within.1))) in
-        (g.well, (g.laid, (omega (arith, long, g.count, c.stretch-k.ensures, within.0, within.1, c.requires.laid.1.0), rw c.stretch-k.ensures (stretch_unpadded d c.loop-i.buffer c.args.samples.now c.loop-i.i c.loop-i-test.true (plain_still g c.requires.laid.1.1, none)))))
+    record { well_formed = g.well; laid = g.laid; samples_bound = omega (arith, long, g.count, c.stretch-k.ensures, within.0, within.1, c.requires.samples_bound); unpadded = rw c.stretch-k.ensures (stretch_unpadded d c.loop-i.buffer c.args.samples.now c.loop-i.i c.loop-i-test.true (plain_still g c.requires.cr_value, none)) }
 
 pub loop-i-smaller : goal.loop-i-smaller
 loop-i-smaller c = let within = stretch_within (device c.loop-i.e c.loop-i.slots) c.loop-i.buffer c.args.samples.now c.loop-i.i c.loop-i-test.true in
-    rw c.stretch-k.ensures (omega (arith, within.0, within.1))
+        rw c.stretch-k.ensures (omega (arith, within.0, within.1))
 
 pub loop-i-preserved : goal.loop-i-preserved
 loop-i-preserved c = let within = stretch_within (device c.loop-i.e c.loop-i.slots) c.loop-i.buffer c.args.samples.now c.loop-i.i c.loop-i-test.true in
-    going_far c.loop-i.invariant _ _ (rw c.stretch-k.ensures (omega (arith, within.0))) (rw c.stretch-k.ensures within.1) c.unpadded_steps-e.ensures c.unpadded_steps-e.auto.1.1.0
+    going_far c.loop-i.invariant _ _ (rw c.stretch-k.ensures (omega (arith, within.0))) (rw c.stretch-k.ensures within.1) c.unpadded_steps-e.ensures c.unpadded_steps-e.auto.buffer
 
 pub shape_of-buffer : goal.shape_of-buffer
 shape_of-buffer c = c.loop-i.invariant.long
