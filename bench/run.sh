@@ -5,10 +5,10 @@ set -eu
 cd "$(dirname "$0")/.."
 out=target/bench
 mkdir -p "$out"
-rt staticlib dcmi >"$out/staticlib.log" 2>&1
-rt check frame_printer >"$out/frame_printer.log" 2>&1
-printer=target/bin/frame_printer
-gcc -std=c11 -O2 -Iinclude -Itests/c bench/bench.c tests/c/model.c target/staticlib/libdcmi.a -o "$out/bench"
+(cd crates/dcmi && rt lib) >"$out/dcmi.log" 2>&1
+(cd crates/frame_printer && rt run <stdin) >"$out/frame_printer.log" 2>&1
+printer=crates/frame_printer/out/frame_printer
+gcc -std=c11 -O2 -Iinclude -Itests/c bench/bench.c tests/c/model.c crates/dcmi/out/libdcmi.a -o "$out/bench"
 gcc -std=c11 -O2 -Iinclude -Itests/c tests/c/many_samples.c tests/c/child.c tests/c/printed.c tests/c/inputs.c tests/c/model.c -o "$out/many_samples"
 
 # bench TIMES WHICH WIDTH CROP OVERRUN ROWS DEPTH WAITING [SAMPLES]

@@ -8,7 +8,7 @@ names=$out/names
 
 # What there is, a line each: crate C; definition C FILE NAME; law C NAME; function C NAME; proof C NAME, of a file or a folder; edit C NAME.
 {
-    sed -n 's/^\([a-z0-9_]*\):.*/crate \1/p' crates.txt
+    sed -nE 's/^([a-z0-9_]+)( +staticlib)? *:.*/crate \1/p' crates.txt
     awk '
         FNR == 1 { split(FILENAME, path, "/"); file = FILENAME; sub(".*/", "", file); sub("[.]antt$", "", file) }
         /^[^ \t]/ {
@@ -20,15 +20,15 @@ names=$out/names
             if (path[3] == "specs") print "definition", path[2], file, line
             print "law", path[2], line
         }
-    ' $(find crates -name '*.antt' | sort)
+    ' $(find crates -path 'crates/*/out' -prune -o -name '*.antt' -print | sort)
     for source in crates/*/src/*.rt; do
         crate=${source#crates/}
         crate=${crate%%/*}
-        sed -nE "s/^ *(pub |const |extern \"C\" )*fn ([a-z0-9_]+).*/function $crate \2/p; s/^pub use .*::([a-z0-9_]+);.*/function $crate \1/p
+        sed -nE "s/^ *(pub |const |unsafe |extern \"C\" )*fn ([a-z0-9_]+).*/function $crate \2/p; s/^pub use .*::([a-z0-9_]+);.*/function $crate \1/p
             s/^(pub )?mod ([a-z0-9_]+);.*/function $crate \2/p" "$source"
     done
-    find crates -path '*/proofs/*' | awk -F / '{ for (i = 4; i <= NF; i++) print "proof", $2, $i }' | sort -u
-    find crates -path '*/must-fail/*.edit' | sed -E 's|crates/([^/]*)/must-fail/(.*)[.]edit|edit \1 \2|' | sort
+    find crates -path 'crates/*/out' -prune -o -path '*/proofs/*' -print | awk -F / '{ for (i = 4; i <= NF; i++) print "proof", $2, $i }' | sort -u
+    find crates -path 'crates/*/out' -prune -o -path '*/must-fail/*.edit' -print | sed -E 's|crates/([^/]*)/must-fail/(.*)[.]edit|edit \1 \2|' | sort
 } >"$names"
 
 # A row with an empty first cell goes on with the one above: with its crate and its file.
@@ -135,8 +135,8 @@ status=$?
 cat "$out/developer_page"
 [ "$status" -eq 0 ] || fail "$page and the tree differ as said above"
 
-# Files and folders that a page names from crates/ on are there; a name in the last column of a table of docs/WRONG.md is a must-fail edit.
-gone=$(for path in $(grep -ohE '`crates/[a-z0-9_]+[A-Za-z0-9_./-]*`' README.md docs/*.md | tr -d '`' | sort -u); do [ -e "$path" ] || echo "$path"; done)
+# Files and folders that a page names from crates/ on are there, but for what rt makes, in crates/*/out; a name in the last column of a table of docs/WRONG.md is a must-fail edit.
+gone=$(for path in $(grep -ohE '`crates/[a-z0-9_]+[A-Za-z0-9_./-]*`' README.md docs/*.md | tr -d '`' | sort -u | grep -v '^crates/[a-z0-9_]*/out/'); do [ -e "$path" ] || echo "$path"; done)
 [ -z "$gone" ] || fail "the pages name what is not there: $gone"
 gone=$(awk -F '|' '/^\|/ { print $(NF - 1) }' docs/WRONG.md | grep -oE '`[a-z0-9_]+`' | tr -d '`' | sort -u | comm -23 - <(sed -nE 's/^(edit [^ ]*|crate) //p' "$names" | sort -u))
 [ -z "$gone" ] || fail "docs/WRONG.md names edits that are not there: $gone"

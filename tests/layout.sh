@@ -1,5 +1,5 @@
 #!/usr/bin/env bash
-# The sources are in the formatter's layout, no public function that a user may call has a `requires`, no proof has a hole, and an alias of a file of
+# The sources are in the layout of `rt fmt`, no public function that a user may call has a `requires`, no proof has a hole, and an alias of a file of
 # definitions means the same file everywhere.
 . "$(dirname "$0")/c/library.sh"
 bad=0
@@ -8,7 +8,18 @@ say() {
     bad=1
 }
 
-rt fmt --check >/dev/null 2>&1 || say "rt fmt would change a file: rt fmt --check tells which"
+# `rt fmt` writes, so it is run on a copy, in each crate, and names there what it changes.
+temporary_folder
+cp crates.txt "$folder"
+for crate in crates/*/; do
+    mkdir -p "$folder/$crate"
+    for part in src specs proofs; do
+        [ ! -d "$crate$part" ] || cp -R "$crate$part" "$folder/$crate"
+    done
+    (cd "$folder/$crate" && rt fmt) >"$folder/fmt.log" 2>&1 || say "rt fmt failed in $crate: $(cat "$folder/fmt.log")"
+    changed=$(sed -n 's/^rt: formatted //p' "$folder/fmt.log")
+    [ -z "$changed" ] || say "rt fmt would change, in $crate: $changed"
+done
 
 # The public functions of a crate that have a `requires`: of lib.rt, and of the modules that it declares `pub mod` or passes on by `pub use`.
 with_requires() {
@@ -41,13 +52,13 @@ for crate in $inside; do
     [ -f "crates/$crate/src/lib.rt" ] || say "crates.txt has $crate inside, and there is no such library"
 done
 
-holes=$(grep -rnE '(^|[^-A-Za-z])\?[[:space:]]*$' --include='*.antt' crates)
+holes=$(grep -rnE '(^|[^-A-Za-z])\?[[:space:]]*$' --include='*.antt' --exclude-dir=out crates)
 [ -z "$holes" ] || say "a proof has a hole: $holes"
 
-# Aliases, `use FILE as ALIAS`, of the code and the definitions; a crate names its own files in another way than the others do.
-aliases=$(cat crates/*/src/*.rt crates/*/specs/*.antt | sed -nE 's/·specs\.specs/.specs/; s/^(ghost )?use (Rattle[^ {;]+) as ([a-z0-9-]+);?$/\3 \2/p' | sort -u)
+# Aliases, `use FILE as ALIAS`, of the code and the definitions.
+aliases=$(cat crates/*/src/*.rt crates/*/specs/*.antt | sed -nE 's/^(ghost )?use (Rattle[^ {;]+) as ([a-z0-9_-]+);?$/\3 \2/p' | sort -u)
 twice=$(cut -d ' ' -f 1 <<<"$aliases" | uniq -d)
 [ -z "$twice" ] || say "an alias has two files: $twice"
 
-echo "layout: $users crates for users, $(wc -w <<<"$inside") inside, $(find crates -name '*.antt' | wc -l) files of definitions and proofs"
+echo "layout: $users crates for users, $(wc -w <<<"$inside") inside, $(find crates -path 'crates/*/out' -prune -o -name '*.antt' -print | wc -l) files of definitions and proofs"
 exit $bad

@@ -25,17 +25,30 @@ compile() {
     gcc $c11 "$@" -o "$out/$name" || fail "compiling tests/c/$name.c"
 }
 
-# The library; made, unless it is there and newer than every source.
-library=target/staticlib/libdcmi.a
-need_library() {
-    [ -f "$library" ] && [ -z "$(find crates crates.txt -newer "$library" -print -quit)" ] && return
-    rt staticlib dcmi >target/staticlib.log 2>&1 && [ -f "$library" ] || fail "rt staticlib dcmi (target/staticlib.log)"
+# Whether a file is there and newer than every source. What rt makes is in crates/*/out, and changes the time of crates/* too.
+is_newest() {
+    [ -f "$1" ] && [ ! crates.txt -nt "$1" ] && [ -z "$(find crates -mindepth 2 -path 'crates/*/out' -prune -o -newer "$1" -print -quit)" ]
 }
 
-# The frame printer.
-printer=$PWD/target/bin/frame_printer
+# The library, of the crate dcmi; made, unless it is there and newer than every source. In the gate, where `rt ci` has just passed and no other command
+# has built the libraries below, it is made over those that `rt ci` left (library_after_ci.py says why); else by `rt lib`.
+library=crates/dcmi/out/libdcmi.a
+need_library() {
+    is_newest "$library" && return
+    if [ -n "${RT_CI_PASSED:-}" ] && [ -z "$(find crates -path 'crates/*/out/rlib/stamp' -print -quit)" ]; then
+        python3 tests/c/library_after_ci.py dcmi >target/dcmi.log 2>&1 && [ -f "$library" ] && return
+        echo "tests/c/library_after_ci.py dcmi failed (target/dcmi_after_ci.log): rt lib is next"
+        mv target/dcmi.log target/dcmi_after_ci.log
+    fi
+    (cd crates/dcmi && rt lib) >target/dcmi.log 2>&1 && [ -f "$library" ] || fail "rt lib in crates/dcmi (target/dcmi.log)"
+}
+
+# The frame printer, which `rt ci` and `rt run` leave; made, unless it is there and newer than every source.
+printer=$PWD/crates/frame_printer/out/frame_printer
 need_printer() {
-    [ -x "$printer" ] || fail "target/bin/frame_printer is not there: rt check frame_printer makes it"
+    is_newest "$printer" && return
+    (cd crates/frame_printer && rt run <stdin) >target/frame_printer.log 2>&1 && [ -x "$printer" ] ||
+        fail "rt run in crates/frame_printer (target/frame_printer.log)"
 }
 
 # A folder of its own in $folder, which goes when the test ends.

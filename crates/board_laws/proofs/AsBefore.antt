@@ -126,11 +126,11 @@ pub calls_as_before : (d : Device) (ks : List device_histories.Call) → without
 unfolding on_board without_placings after device_histories.after samplings_of device_histories.samplings_of
 calls_as_before d [] e = (unfold after_all device_histories.after_all in refl, unfold happenings_of_all device_histories.events_of_all events in refl)
 calls_as_before d (device_histories.a_write offset value fits ∷ ks) e =
-    one_more d _ _ ks (on_board ks) (ap (λ (r : Changed). r.board) (write_before d offset value)) refl (calls_as_before _ ks e)
+    one_more d _ _ ks (on_board ks) (ap (λ (r : Changed). r.board) (write_before d offset value)) refl (calls_as_before (device_histories.after d (device_histories.a_write offset value fits)) ks e)
 calls_as_before d (device_histories.a_rearming ∷ ks) e =
-    one_more d _ _ ks (on_board ks) (ap (λ (r : Changed). r.board) (rearm_before d)) refl (calls_as_before _ ks e)
+    one_more d _ _ ks (on_board ks) (ap (λ (r : Changed). r.board) (rearm_before d)) refl (calls_as_before (device_histories.after d device_histories.a_rearming) ks e)
 calls_as_before d (device_histories.a_placing k ∷ ks) e = absurd (false≢true e)
 calls_as_before d (device_histories.a_run memory start samples ∷ ks) e =
-    one_more d _ _ ks (on_board ks) (ap (λ (r : OneRun). r.board) (run_before d memory start samples)) (same_samplings d memory start samples) (calls_as_before _ ks e)
+    one_more d _ _ ks (on_board ks) (ap (λ (r : OneRun). r.board) (run_before d memory start samples)) (same_samplings d memory start samples) (calls_as_before (device_histories.after d (device_histories.a_run memory start samples)) ks e)
 calls_as_before d (device_histories.a_sample memory start w ∷ ks) e =
-    one_more d _ _ ks (on_board ks) (ap (λ (r : OneSample). r.board) (sample_before d memory start w)) (same_samplings d memory start (w ∷ [])) (calls_as_before _ ks e)
+    one_more d _ _ ks (on_board ks) (ap (λ (r : OneSample). r.board) (sample_before d memory start w)) (same_samplings d memory start (w ∷ [])) (calls_as_before (device_histories.after d (device_histories.a_sample memory start w)) ks e)

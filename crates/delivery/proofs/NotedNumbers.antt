@@ -22,7 +22,7 @@ turned two t s (w ∷ ws) = turned two (next_turn two t s (capture_sample s w)) 
 pub turned_append : (two : Bool) (t : Turn) (s : Capture) (xs ys : List ℕ) → turned two t s (xs ++ ys) ≡ turned two (turned two t s xs) (captures s xs) ys
 unfolding turned captures
 turned_append two t s [] ys = refl
-turned_append two t s (w ∷ ws) ys = turned_append two _ (next_capture s w) ws ys
+turned_append two t s (w ∷ ws) ys = turned_append two (next_turn two t s (capture_sample s w)) (next_capture s w) ws ys
 
 pub noted_append : (n : ℕ) (two : Bool) (t : Turn) (s : Capture) (xs ys : List ℕ)
     → noted n two t s (xs ++ ys) ≡ noted n two t s xs ++ noted (n + length xs) two (turned two t s xs) (captures s xs) ys

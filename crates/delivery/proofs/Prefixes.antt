@@ -18,12 +18,12 @@ use Rattle.delivery.proofs.Sampling.{sampled, sampled_append, packs}
 sampled_from : (t u : Starts) (s : System) (ws : List ℕ) → (0 < length ws → u ≡ t) → sampled u s ws ≡ sampled t s ws
 unfolding sampled
 sampled_from t u s [] same = refl
-sampled_from t u s (w ∷ ws) same = rw (same (omega arith))
+sampled_from t u s (w ∷ ws) same = ap (λ (z : Starts). sampled z s (w ∷ ws)) (same (omega arith))
 
 inside_from : (t u : Starts) (s : System) (n : ℕ) (ws : List ℕ) → (0 < length ws → u ≡ t) → moments_inside u s n ws ≡ moments_inside t s n ws
 unfolding moments_inside
 inside_from t u s n [] same = refl
-inside_from t u s n (w ∷ ws) same = rw (same (omega arith))
+inside_from t u s n (w ∷ ws) same = ap (λ (z : Starts). moments_inside z s n (w ∷ ws)) (same (omega arith))
 
 -- The samples have the start byte, or bytes, t.
 module _ (t : Starts) (s₀ : System) where

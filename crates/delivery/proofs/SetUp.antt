@@ -153,7 +153,7 @@ one_ready {depth} c b two_buffers r =
 all_ready : {depth : ℕ} (c : Configured) (b : Board) (xs : List SetUpCall) → Ready depth c b → Ready depth (noted_set_ups c xs) (after_set_ups b xs)
 unfolding noted_set_ups after_set_ups
 all_ready c b [] r = r
-all_ready c b (x ∷ xs) r = all_ready _ _ xs (one_ready c b x r)
+all_ready c b (x ∷ xs) r = all_ready (noted_set_up c x) (after_set_up b x) xs (one_ready c b x r)
 
 -- At reset.
 abbrev pub at_reset : ℕ → Configured

@@ -10,8 +10,8 @@ use Rattle.output.specs.Output.{with_held, holding, fresh_output, contents, laid
 use Rattle.board_rules.specs.declared.Board.{Board}
 use Rattle.board_rules.specs.TwoBuffers.{part}
 use Rattle.board_rules.specs.BoardRuns.{lent, memories}
-use Rattle.delivery.specs.Calls.{SetUpCall, boards, Moment}
-use Rattle.delivery.specs.Noted.{Configured, Noted, noted}
+use Rattle.delivery.specs.Calls.{SetUpCall, boards, Moment, after_set_up}
+use Rattle.delivery.specs.Noted.{Configured, Noted, noted, noted_set_up}
 use Rattle.delivery.specs.Placed.{with_noted}
 use Rattle.delivery.specs.Delivery.{Scenario, Promised, All, unsampled}
 use Rattle.delivery.proofs.SetUp.{Ready, one_ready}
@@ -44,7 +44,7 @@ pub each_unsampled : {depth : ℕ} (x : Scenario) (P : Moment → Type 0) → ((
     → (c : Configured) (b : Board) (cs : List SetUpCall) → Ready depth c b → All P (map (unsampled x) (boards b cs))
 unfolding boards
 each_unsampled x P f c b [] r = (f c b r, tt)
-each_unsampled x P f c b (s ∷ cs) r = (f c b r, each_unsampled x P f _ _ cs (one_ready c b s r))
+each_unsampled x P f c b (s ∷ cs) r = (f c b r, each_unsampled x P f (noted_set_up c s) (after_set_up b s) cs (one_ready c b s r))
 
 pub each_promised : {depth : ℕ} (x : Scenario) (c : Configured) (b : Board) (cs : List SetUpCall) → Ready depth c b → All (Promised x) (map (unsampled x) (boards b cs))
 each_promised x = each_unsampled x (Promised x) (promised x)

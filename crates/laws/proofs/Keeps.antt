@@ -31,7 +31,7 @@ steps_append d b (w ∷ ws) ys = steps_append (step d b w).device (step d b w).b
 pub steps_keep : (d : Device) (buffer samples : List ℕ) → WellFormed d → WellFormed (steps d buffer samples).device
 unfolding steps
 steps_keep d buffer [] h = h
-steps_keep d buffer (w ∷ ws) h = steps_keep _ _ ws (step_keeps d buffer w h)
+steps_keep d buffer (w ∷ ws) h = steps_keep (step d buffer w).device (step d buffer w).buffer ws (step_keeps d buffer w h)
 
 pub run_keeps : (d : Device) (memory : List ℕ) (start : ℕ) (samples : List ℕ) → malformed d ≡ false
     → malformed (run d memory start samples).device ≡ false

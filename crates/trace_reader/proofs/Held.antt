@@ -1,11 +1,11 @@
--- What the walks over a `Reader` share: what it owns of its file and its place, and how it lies in a local that is lent to a call.
+-- What a `Reader` owns of its file and its place, and how it lies in a local that is lent to a call: for a walk by hand of a function over one. Rattle writes those of `reader` itself.
 -- A `&[u8]` is Copy, so what the file owns is had twice; a number's facts are had for nothing.
 use mathlib.Core.Path.{◌≡◌, refl}
 use Prim.Native.Nat.{ℕ, ◌<◌, ◌^◌}
 use mathlib.Core.List.{List, [], ◌∷◌}
 use lib.ListN.{length}
 use seplogic.Ra.Ura.{Ura}
-use seplogic.Ra.TreeShare.{full_share}
+use base.Fraction.{full_share}
 use mir.Syntax.{Lifetime, named, erased, w64}
 use mir.Val.{Val}
 use base.Logic.{ent, sep}

@@ -2,7 +2,6 @@
 // answers for every slice and number, and states its answer as an equation with a definition. `item_at` alone makes no form checks: it is for the crates of this repository, which have made them.
 #![tactic(auto)]
 
-
 mod items;
 mod reader;
 

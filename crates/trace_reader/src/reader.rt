@@ -1,4 +1,4 @@
-// A reader over a lent file: it holds the file and its place. Each function over it calls a covered one on the file and the place.
+// A reader over a lent file: it holds the file and its place.
 ghost use Rattle.std.specs.Prelude.{◌≡◌};
 ghost use Rattle.trace_format.specs.Reading as reading;
 ghost use Rattle.trace_reader.specs.Answers as trace_answers;
@@ -12,8 +12,8 @@ pub struct Reader<'a> {
     pub place: usize,
 }
 
-// A reader at the first place. An enum cannot hold a reference, so opening cannot answer "a reader or a refusal": a reader of a file
-// that does not pass the form checks answers their refusal at each `next`.
+// A reader at the first place. Opening makes no checks: a reader of a file that does not pass the form checks answers their refusal
+// at each `next`.
 pub fn open<'a>(file: &'a [u8]) -> Reader<'a>
     ensures { (result.file ≡ file.entry) × (result.place ≡ 0) }
 {
@@ -36,7 +36,7 @@ pub fn place<'a>(r: Reader<'a>) -> usize
     r.place
 }
 
-// One reading at any place, through a reader: for callers that have a file and a number. Its parameters are plain, so they need no walk.
+// One reading at any place, through a reader: for callers that have a file and a number.
 pub fn read_once(file: &[u8], place: usize) -> Read
     ensures { trace_answers.read result ≡ reading.read file.now place }
 {

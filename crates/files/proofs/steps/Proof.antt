@@ -6,7 +6,7 @@ use native.Mathlib.Omega.{arith}
 use lib.Seq.{length-take-le}
 use Rattle.trace_format.specs.Reading.{sample_count, sample_start}
 use Rattle.trace.proofs.ManySamples.{taken_apart}
-use Rattle.files.proofs.Samples.{Stepping, stepping_start, some, stepping-room, stepping-asks, stepping-on, stepping-end, accepted_file, only-samples}
+use Rattle.files.proofs.Samples.{Stepping, stepping_start, some, stepping_room, stepping_asks, stepping_on, stepping_end, accepted_file, only_samples}
 use Rattle.files.proofs.steps.Statement.{statement}
 use Rattle.files.proofs.steps.Tie as tie
 
@@ -37,7 +37,7 @@ array-share-prefix-samples c =
     let answer = rw (place, c.before.before.before.before.before.before.before.before.before.before.sample-count.ensures.0) at c.before.before.before.before.before.samples-at.ensures.0 in
     let many = taken_apart _ _ _ _ _ _ c.before.before.next.given.1 answer in
     let front = rw (place, c.before.before.before.before.before.before.before.before.before.before.sample-count.ensures.0, ← many.is) at c.before.before.before.before.before.samples-at.ensures.1 in
-    stepping-room l.invariant (accepted_file _ c.before.before.before.before.before.before.before.before.before.before.before.before.before.requires.1.1).0 inside many.is front
+    stepping_room l.invariant (accepted_file _ c.before.before.before.before.before.before.before.before.before.before.before.before.before.requires.1.1).0 inside many.is front
 
 slice-aggregate-run : tie.Need-slice-aggregate-run invariant-loop decreases-loop
 slice-aggregate-run c =
@@ -48,7 +48,7 @@ slice-aggregate-run c =
     let answer = rw (place, c.before.before.before.before.before.before.before.before.before.before.before.sample-count.ensures.0) at c.before.before.before.before.before.before.samples-at.ensures.0 in
     let many = taken_apart _ _ _ _ _ _ c.before.before.before.next.given.1 answer in
     let front = rw (place, c.before.before.before.before.before.before.before.before.before.before.before.sample-count.ensures.0, ← many.is) at c.before.before.before.before.before.before.samples-at.ensures.1 in
-    sym (length-take-le _ _ (stepping-room l.invariant (accepted_file _ c.before.before.before.before.before.before.before.before.before.before.before.before.before.before.requires.1.1).0 inside many.is front))
+    sym (length-take-le _ _ (stepping_room l.invariant (accepted_file _ c.before.before.before.before.before.before.before.before.before.before.before.before.before.before.requires.1.1).0 inside many.is front))
 
 run-requires : tie.Need-run-requires invariant-loop decreases-loop
 run-requires c κs =
@@ -59,7 +59,7 @@ run-requires c κs =
     let answer = rw (place, c.before.before.before.before.before.before.before.before.before.before.before.sample-count.ensures.0) at c.before.before.before.before.before.before.samples-at.ensures.0 in
     let many = taken_apart _ _ _ _ _ _ c.before.before.before.next.given.1 answer in
     let front = rw (place, c.before.before.before.before.before.before.before.before.before.before.before.sample-count.ensures.0, ← many.is) at c.before.before.before.before.before.before.samples-at.ensures.1 in
-    stepping-asks l.invariant (accepted_file _ c.before.before.before.before.before.before.before.before.before.before.before.before.before.before.requires.1.1).0 inside many.is front (omega (arith, c.before.before.before.before.before.before.before.before.before.before.before.sample-count.ensures.0, c.before.before.before.before.before.before.before.before.before.before.before.sample-count.ensures.1))
+    stepping_asks l.invariant (accepted_file _ c.before.before.before.before.before.before.before.before.before.before.before.before.before.before.requires.1.1).0 inside many.is front (omega (arith, c.before.before.before.before.before.before.before.before.before.before.before.sample-count.ensures.0, c.before.before.before.before.before.before.before.before.before.before.before.sample-count.ensures.1))
 
 add_done : tie.Need-overflow-add-done invariant-loop decreases-loop
 add_done c =
@@ -92,7 +92,7 @@ loop-again c =
     let answer = rw (place, c.before.before.before.before.before.before.before.before.before.before.before.before.before.before.sample-count.ensures.0) at c.before.before.before.before.before.before.before.before.before.samples-at.ensures.0 in
     let many = taken_apart _ _ _ _ _ _ c.before.before.before.before.before.before.next.given.1 answer in
     let front = rw (place, c.before.before.before.before.before.before.before.before.before.before.before.before.before.before.sample-count.ensures.0, ← many.is) at c.before.before.before.before.before.before.before.before.before.samples-at.ensures.1 in
-    stepping-on l.invariant (accepted_file _ c.before.before.before.before.before.before.before.before.before.before.before.before.before.before.before.before.before.requires.1.1).0 inside many.is front _ _ c.before.before.run.ensures c.before.before.run.auto.1.0
+    stepping_on l.invariant (accepted_file _ c.before.before.before.before.before.before.before.before.before.before.before.before.before.before.before.before.before.requires.1.1).0 inside many.is front _ _ c.before.before.run.ensures c.before.before.run.auto.1.0
 
 same_length : tie.Need-same-length invariant-loop decreases-loop
 same_length c = c.before.before.before.before.before.loop.invariant.long
@@ -104,13 +104,13 @@ returns c =
     let place : c.before.before.before.before.before.before.samples-start.result + 3 * l.done ≡ sample_start a.file.now l.done = omega (arith, c.before.before.before.before.before.before.samples-start.ensures.0) in
     let inside = rw c.before.before.before.before.before.before.before.sample-count.ensures.0 at c.before.before.before.before.loop-test.true in
     let answer = rw (place, c.before.before.before.before.before.before.before.sample-count.ensures.0) at c.before.before.samples-at.ensures.0 in
-    absurd (only-samples l.invariant c.before.before.before.before.before.before.before.before.before.before.requires.1.1 inside c.before.before.samples-at.result answer c.match.keys2)
+    absurd (only_samples l.invariant c.before.before.before.before.before.before.before.before.before.before.requires.1.1 inside c.before.before.samples-at.result answer c.match.keys2)
 
 same-length-2 : tie.Need-same-length-2 invariant-loop decreases-loop
 same-length-2 c = c.before.loop.invariant.long
 
 returns-2 : tie.Need-returns-2 invariant-loop decreases-loop
-returns-2 c = stepping-end c.before.loop.invariant (rw c.before.before.before.sample-count.ensures.0 at c.loop-test.false)
+returns-2 c = stepping_end c.before.loop.invariant (rw c.before.before.before.sample-count.ensures.0 at c.loop-test.false)
 
 pub steps-spec : {M : Type 1} → statement M
 steps-spec =

@@ -11,7 +11,7 @@ use Rattle.rules.specs.Run.{RunResult, run}
 use Rattle.refusals.specs.Table.{outcome}
 use Rattle.refusals.proofs.Numbered.{never_zero}
 use Rattle.parts.specs.Answers.{taken}
-use Rattle.parts.proofs.Stretch.{none_taken, few, front-room, stretch-taken, positive}
+use Rattle.parts.proofs.Stretch.{none_taken, few, front_room, stretch_taken, positive}
 use Rattle.trace.proofs.ManySamples.{taken_apart}
 use Rattle.file_rules.proofs.Singles.{run_refused}
 use Rattle.parts.proofs.take_samples.Statement.{statement}
@@ -24,13 +24,13 @@ array-share-prefix-samples : tie.Need-array-share-prefix-samples
 array-share-prefix-samples c =
     let many = taken_apart _ _ _ _ _ _ c.before.before.before.next.given.1 (rw c.before.before.before.before.before.before.before.before.samples-left.ensures.0 at c.before.before.before.before.before.before.samples-at.ensures.0) in
     let front = rw (c.before.before.before.before.before.before.before.before.samples-left.ensures.0, ← many.is) at c.before.before.before.before.before.before.samples-at.ensures.1 in
-    front-room _ _ _ _ c.before.before.before.before.before.before.before.before.before.before.before.before.before.before.before.before.requires _ _ _ many.is front
+    front_room _ _ _ _ c.before.before.before.before.before.before.before.before.before.before.before.before.before.before.before.before.requires _ _ _ many.is front
 
 slice-aggregate-run : tie.Need-slice-aggregate-run
 slice-aggregate-run c =
     let many = taken_apart _ _ _ _ _ _ c.before.before.before.before.next.given.1 (rw c.before.before.before.before.before.before.before.before.before.samples-left.ensures.0 at c.before.before.before.before.before.before.before.samples-at.ensures.0) in
     let front = rw (c.before.before.before.before.before.before.before.before.before.samples-left.ensures.0, ← many.is) at c.before.before.before.before.before.before.before.samples-at.ensures.1 in
-    sym (length-take-le _ _ (front-room _ _ _ _ c.before.before.before.before.before.before.before.before.before.before.before.before.before.before.before.before.before.requires _ _ _ many.is front))
+    sym (length-take-le _ _ (front_room _ _ _ _ c.before.before.before.before.before.before.before.before.before.before.before.before.before.before.before.before.before.requires _ _ _ many.is front))
 
 returns-2 : tie.Need-returns-2
 returns-2 c =
@@ -58,7 +58,7 @@ returns-3 c =
     let front = rw (c.before.before.before.before.before.before.before.before.before.before.before.before.before.before.before.before.samples-left.ensures.0, ← many.is) at c.before.before.before.before.before.before.before.before.before.before.before.before.before.before.samples-at.ensures.1 in (
       (few _ _ _ _ c.before.before.before.before.before.before.before.before.before.before.before.before.before.before.before.before.before.before.before.before.before.before.before.before.requires _ _ _ many.is front).2,
       rw c.cleared.ensures.1
-          (stretch-taken _ _ _ _ c.before.before.before.before.before.before.before.before.before.before.before.before.before.before.before.before.before.before.before.before.before.before.before.before.requires _ _ _ many.is front _ _ _ _ _ (record { number = outcome c.before.before.before.before.before.before.run.result.outcome; device = c.before.before.before.before.before.before.run.result.device; memory = _ }) c.cleared.ensures.0 (sym c.before.before.before.before.before.before.before.before.before.before.before.before.before.before.before.before.before.before.before.fine.ensures ∙ c.before.before.before.before.before.before.before.before.before.before.before.before.before.before.before.before.before.before.if1.true) many.some c.before.before.before.before.before.before.run.ensures (ap outcome c.before.enum_told.given.1)),
+          (stretch_taken _ _ _ _ c.before.before.before.before.before.before.before.before.before.before.before.before.before.before.before.before.before.before.before.before.before.before.before.before.requires _ _ _ many.is front _ _ _ _ _ (record { number = outcome c.before.before.before.before.before.before.run.result.outcome; device = c.before.before.before.before.before.before.run.result.device; memory = _ }) c.cleared.ensures.0 (sym c.before.before.before.before.before.before.before.before.before.before.before.before.before.before.before.before.before.before.before.fine.ensures ∙ c.before.before.before.before.before.before.before.before.before.before.before.before.before.before.before.before.before.before.if1.true) many.some c.before.before.before.before.before.before.run.ensures (ap outcome c.before.enum_told.given.1)),
     )
 
 returns-4 : tie.Need-returns-4

@@ -1,0 +1,11 @@
+-- `board_words::encodes` meets its contract. Assumes nothing.
+use Rattle.image_rules.specs.BoardImage.{encodes}
+use Rattle.board_words.proofs.encodes.Goals as goal
+
+pub returns-then-encodes : goal.returns-then-encodes
+unfolding encodes
+returns-then-encodes c = rw (c.mode_encodes.ensures, ← c.device_part.ensures, ← c.encodes.ensures, c.if-encodes.true)
+
+pub returns : goal.returns
+unfolding encodes
+returns c = rw (← c.device_part.ensures, ← c.encodes.ensures, c.if-encodes.false)

@@ -1,0 +1,35 @@
+-- `sampling::coded::coded_step` meets its contract. Assumes nothing.
+use mathlib.Core.Path.{ap}
+use native.Mathlib.Omega.{arith}
+use Rattle.laws.proofs.Sampled.{sample_ok}
+use Rattle.output.specs.Output.{with_counts, count_sample, counted}
+use Rattle.rules.specs.Capture.{Captured}
+use Rattle.full_word.specs.Answers.{device}
+use Rattle.sampling.proofs.Ready.{more_lines, asks_grant, asks_word, stepped_coded}
+use Rattle.sampling.proofs.coded.coded_step.Goals as goal
+
+pub granted-g-requires : goal.granted-g-requires
+unfolding counted count_sample with_counts
+granted-g-requires c = let a = c.args in
+    let asked = asks_grant (device a.d a.slots.now) a.buffer.now a.w c.requires.well_formed c.requires.laid c.requires.samples_bound in
+    rw c.count_sample-counted.ensures (record { laid = asked.0; place_bound = asked.1 })
+
+pub coded_sample-requires : goal.coded_sample-requires
+coded_sample-requires c = rw c.apart-s.ensures
+    (record { capture_ok = more_lines (omega (arith, c.requires.samples_bound)) c.requires.well_formed.capture; cr_value = c.requires.cr_value })
+
+pub complete_coded-c-requires : goal.complete_coded-c-requires
+unfolding counted
+complete_coded-c-requires c = let a = c.args in
+    let left = rw (c.count_sample-counted.ensures, c.apart-s.ensures) at c.granted-g.ensures in
+    let (laid, counts) = asks_word (device a.d a.slots.now) a.buffer.now a.w c.requires.well_formed c.requires.laid c.requires.samples_bound left in
+    let state = rw c.apart-s.ensures at (ap (λ (x : Captured). x.state) c.coded_sample.ensures) in
+    record { laid = laid; ris_bound = (rw state (sample_ok a.w c.requires.well_formed.capture).ris, counts.0, counts.1) }
+
+pub returns : goal.returns
+unfolding counted
+returns c = let a = c.args in
+    let left = rw (c.count_sample-counted.ensures, c.apart-s.ensures) at c.granted-g.ensures in
+    let s = rw c.apart-s.ensures at c.coded_sample.ensures in
+        rw (c.note_landing.ensures, c.note_packing.ensures)
+    (stepped_coded (device a.d a.slots.now) a.buffer.now a.landings.now a.words.now a.w left s c.complete_coded-c.ensures)

@@ -1,0 +1,14 @@
+-- `sampling::unpadded_steps` meets its contract: the loop keeps `Going`, and each turn is one step of the rules. Assumes nothing.
+use Prim.Native.Nat.{◌-◌}
+use lib.ListN.{length, drop}
+use Rattle.full_word.specs.Answers.{device}
+use Rattle.sampling.specs.Answers.{noted}
+use Rattle.sampling.specs.Unpadded.{Unpadded}
+use Rattle.sampling.proofs.Going.{Going}
+use Rattle.sampling.proofs.unpadded_steps.Given as goal
+
+abbrev pub invariant-loop-i : goal.invariant-loop-i
+invariant-loop-i l = Going l.samples (noted l.initial.e l.initial.slots l.initial.buffer l.initial.landings l.initial.words) (noted l.e l.slots l.buffer l.landings l.words) l.i × Unpadded (device l.e l.slots) l.buffer (drop l.i l.samples)
+
+abbrev pub decreases-loop-i : goal.decreases-loop-i
+decreases-loop-i l = length l.samples - l.i

@@ -1,7 +1,0 @@
--- `well_formed::malformed` meets its contract. Assumes nothing.
-use borrow.Author.Rules.{rules}
-use Rattle.well_formed.proofs.malformed.Statement.{statement}
-use Rattle.well_formed.proofs.malformed.Tie as tie
-
-pub malformed-spec : {M : Type 1} → statement M
-malformed-spec = tie.close (tie.spec (λ c κs. search rules) (λ c. search rules))
