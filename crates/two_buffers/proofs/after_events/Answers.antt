@@ -18,5 +18,5 @@ returns c = let a = c.args in
     c.after_word-worded.ensures
     c.error_at.ensures
     c.closes-ended.ensures
-    c.After-frame.ensures in
+    c.after_frame-last.ensures in
         rw c.placed.ensures (ap (λ (k : Kept). turned k a.core) last)

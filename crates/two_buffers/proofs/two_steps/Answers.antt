@@ -41,7 +41,7 @@ loop-i-preserved-then-i-k c = let g = c.loop-i.invariant in
     let less = c.if-i-k.true in
     let is = stretch_to c.stretch_end-k.ensures c.loop-i-test.true less in
     let r = c.run_stretch-e in
-    turning_far g (two r.result r.new.1.0 r.new.1.1.0 r.new.1.1.1.0) _ (omega (arith, less)) is.inside r.ensures r.auto.a r.auto.b
+    turning_far g (two r.result r.new.slots r.new.a r.new.b) _ (omega (arith, less)) is.inside r.ensures r.auto.a r.auto.b
 
 pub bounds-samples-i : goal.bounds-samples-i
 bounds-samples-i c = omega (arith, c.loop-i-test.true)
@@ -59,7 +59,7 @@ loop-i-smaller c = omega (arith, c.loop-i-test.true)
 pub loop-i-preserved : goal.loop-i-preserved
 loop-i-preserved c = let g = c.loop-i.invariant in
     let r = c.two_step-r in
-    let left = stepped r.result r.new.1.0 r.new.1.1.0 r.new.1.1.1.0 in
+    let left = stepped r.result r.new.slots r.new.a r.new.b in
     turning_on g left c.loop-i-test.true r.ensures r.auto.a r.auto.b
 
 pub shape_of-a : goal.shape_of-a

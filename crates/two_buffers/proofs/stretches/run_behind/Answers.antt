@@ -8,15 +8,6 @@ use Rattle.two_buffers.proofs.OneStep.{asks_well, asks_laid}
 use Rattle.two_buffers.proofs.Stretching.{run_held, behind_run}
 use Rattle.two_buffers.proofs.stretches.run_behind.Goals as goal
 
--- The frame buffers after the run, and what it leaves.
-abbrev lent : tie.After-struct-known2 → Pair
-lent c = let left = c.before.before.before.before.before.before.before.steps-in.new in pair left.1.1.1.0 left.1.1.1.1.0
-
-abbrev run-left : tie.After-struct-known2 → Noted
-run-left c =
-    let left = c.before.before.before.before.before.before.before.steps-in in
-    noted left.result left.new.1.1.0 (part c.before.before.before.before.before.before.before.before.before.before.before.before.before.before.before.oldest-buffer.result (lent c)) left.new.1.1.1.1.1.0 left.new.1.1.1.1.1.1.0
-
 pub steps_in-core-requires : goal.steps_in-core-requires
 unfolding placed with_place
 steps_in-core-requires c = let x = two c.args.d c.args.slots.now c.args.a.now c.args.b.now in
@@ -25,12 +16,18 @@ steps_in-core-requires c = let x = two c.args.d c.args.slots.now c.args.a.now c.
 
 pub turns_behind-turns-requires : goal.turns_behind-turns-requires
 turns_behind-turns-requires c = let x = two c.args.d c.args.slots.now c.args.a.now c.args.b.now in
-        (run_held x c.requires.laid c.args.samples.now _ _ (run-left c) c.oldest_buffer-u.ensures c.oldest_place.ensures c.placed-core.ensures c.steps_in-core.ensures.words_after, c.requires.turns_ok.buffers, c.requires.turns_ok.opening)
+    let left = c.steps_in-core in
+    let lent : Pair = pair left.new.a left.new.b in
+    let after : Noted = noted left.result left.new.slots (part c.oldest_buffer-u.result lent) left.new.landings left.new.words in
+    (run_held x c.requires.laid c.args.samples.now _ _ after c.oldest_buffer-u.ensures c.oldest_place.ensures c.placed-core.ensures c.steps_in-core.ensures.words_after, c.requires.turns_ok.buffers, c.requires.turns_ok.opening)
 
 pub returns : goal.returns
 unfolding placed
 returns c = let x = two c.args.d c.args.slots.now c.args.a.now c.args.b.now in
-        rw c.placed.ensures
-    (behind_run x c.requires.well_formed c.requires.turns_ok c.requires.laid c.args.samples.now c.requires.lasts _ _ (run-left c.before.before) (lent c.before.before) c.requires.b_value
+    let left = c.steps_in-core in
+    let lent : Pair = pair left.new.a left.new.b in
+    let after : Noted = noted left.result left.new.slots (part c.oldest_buffer-u.result lent) left.new.landings left.new.words in
+    rw c.placed.ensures
+    (behind_run x c.requires.well_formed c.requires.turns_ok c.requires.laid c.args.samples.now c.requires.lasts _ _ after lent c.requires.b_value
     c.oldest_buffer-u.ensures c.oldest_place.ensures c.placed-core.ensures
     c.steps_in-core.ensures.words_after c.steps_in-core.ensures.b_after c.turns_behind-turns.ensures)

@@ -7,15 +7,6 @@ use Rattle.two_buffers.specs.Answers.{placed, pair, two}
 use Rattle.two_buffers.proofs.Stretching.{run_well, run_laid, run_held, stretch_run}
 use Rattle.two_buffers.proofs.stretches.run_on.Goals as goal
 
--- The frame buffers after the run, and what it leaves.
-abbrev lent : tie.After-struct-known2 → Pair
-lent c = let left = c.before.before.before.before.before.before.before.steps-in.new in pair left.1.1.1.0 left.1.1.1.1.0
-
-abbrev run-left : tie.After-struct-known2 → Noted
-run-left c =
-    let left = c.before.before.before.before.before.before.before.steps-in in
-    noted left.result left.new.1.1.0 (part c.before.before.before.before.before.before.before.before.before.before.before.before.before.before.before.next-buffer.result (lent c)) left.new.1.1.1.1.1.0 left.new.1.1.1.1.1.1.0
-
 pub steps_in-core-requires : goal.steps_in-core-requires
 unfolding placed with_place
 steps_in-core-requires c = let x = two c.args.d c.args.slots.now c.args.a.now c.args.b.now in
@@ -24,12 +15,18 @@ steps_in-core-requires c = let x = two c.args.d c.args.slots.now c.args.a.now c.
 
 pub turns_after-turns-requires : goal.turns_after-turns-requires
 turns_after-turns-requires c = let x = two c.args.d c.args.slots.now c.args.a.now c.args.b.now in
-    run_held x c.requires.laid c.args.samples.now _ _ (run-left c) c.next_buffer-u.ensures c.first_place.ensures c.placed-core.ensures c.steps_in-core.ensures.words_after
+    let left = c.steps_in-core in
+    let lent : Pair = pair left.new.a left.new.b in
+    let after : Noted = noted left.result left.new.slots (part c.next_buffer-u.result lent) left.new.landings left.new.words in
+    run_held x c.requires.laid c.args.samples.now _ _ after c.next_buffer-u.ensures c.first_place.ensures c.placed-core.ensures c.steps_in-core.ensures.words_after
 
 pub returns : goal.returns
 unfolding placed
 returns c = let x = two c.args.d c.args.slots.now c.args.a.now c.args.b.now in
-        rw c.placed.ensures
-    (stretch_run x c.requires.well_formed c.requires.turns_ok c.requires.laid c.args.samples.now c.requires.lasts _ _ (run-left c.before.before.before) (lent c.before.before.before) c.requires.turns_value
+    let left = c.steps_in-core in
+    let lent : Pair = pair left.new.a left.new.b in
+    let after : Noted = noted left.result left.new.slots (part c.next_buffer-u.result lent) left.new.landings left.new.words in
+    rw c.placed.ensures
+    (stretch_run x c.requires.well_formed c.requires.turns_ok c.requires.laid c.args.samples.now c.requires.lasts _ _ after lent c.requires.turns_value
     c.next_buffer-u.ensures c.first_place.ensures c.placed-core.ensures
     c.steps_in-core.ensures.words_after c.steps_in-core.ensures.b_after c.turns_after-turns.ensures c.place_a-place.ensures)

@@ -9,7 +9,7 @@ returns c = rw (
       ← c.first_opens-opens.ensures,
       ← c.switched-s.ensures,
       ← c.opened.ensures,
-      ← c.Opened-in.ensures,
+      ← c.opened_in-k.ensures,
       ← c.waiting.ensures,
       ← c.tagged-m.ensures,
     )
