@@ -1,4 +1,5 @@
--- For a proof that walks a function's MIR by hand; the functions here need none. A board behind a lent reference: the reference's borrow is opened at the board that lies there, and closed at another.
+-- A board behind a lent reference, for a proof that walks a function's MIR by hand; the functions here need none. The reference's borrow is opened at
+-- the board that lies there, and closed at another.
 -- A board is plain data: what it owns is facts, so it is let go where the borrow is opened, and made anew where it is closed.
 -- A walk goes over the function's MIR with its declared types spelled by some g: so none of them is laid out in it. `Spelled` is all that it knows of them.
 use mathlib.Core.Path.{◌≡◌, refl, sym, subst}

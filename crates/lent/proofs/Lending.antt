@@ -1,4 +1,5 @@
--- For a proof that walks a function's MIR by hand; the functions here need none. The holder's side of a lent board: the board in a local is lent for a lifetime κ, and comes back at the board that the borrower left.
+-- The holder's side of a lent board, for a proof that walks a function's MIR by hand; the functions here need none. The board in a local is lent for a lifetime κ, and comes
+-- back at the board that the borrower left.
 -- A board is plain data: what it owns is facts, so the local's cell is all that is lent, and what a board owns is made anew for it.
 -- The cell stands at the type τ that the holder's MIR has for a board (`Behind`).
 use mathlib.Core.Path.{◌≡◌, refl, sym}
