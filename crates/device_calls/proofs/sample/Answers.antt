@@ -16,7 +16,7 @@ returns-in-One c = let a = c.args in
 pub returns-in-Two : goal.returns-in-Two
 unfolding sample
 returns-in-Two c = let found = c.board_of-b in
-        rw (
+    rw (
       ← c.encodes.ensures,
       c.if-encodes.true,
       ← found.ensures,

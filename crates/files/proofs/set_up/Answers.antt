@@ -1,5 +1,4 @@
 -- `files::set_up` meets its contract: the writes left lead to the same end.
-use Prim.Native.Nat.{◌-◌}
 use borrow.Author.Rules.{rules}
 use mathlib.Core.Path.{sym, ap, ◌∙◌}
 use native.Mathlib.Omega.{arith}
