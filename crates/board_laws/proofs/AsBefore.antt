@@ -20,7 +20,7 @@ use Rattle.board_rules.specs.State.{malformed}
 use Rattle.board_rules.specs.Answers.{Changed, change}
 use Rattle.board_rules.specs.BoardCalls.{in_one, read, interrupt, mode_after, write, rearmed_mode, rearm}
 use Rattle.board_rules.specs.BoardRuns.{OneRun, OneSample, one_refusal, run, sample}
-use Rattle.board_laws.specs.BoardHistories.{Call, a_write, a_rearming, a_run, a_sample, after, after_all, samplings_of, device_events, happenings_of_all, events}
+use Rattle.board_laws.specs.BoardHistories.{Call, after, after_all, samplings_of, device_events, happenings_of_all, events}
 use Rattle.board_laws.specs.BoardBefore.{changed_one, ran_one, sampled_one, AsBefore, on_board, without_placings}
 use Rattle.board_laws.proofs.AsDevice.{call_events}
 

@@ -19,7 +19,7 @@ use Rattle.samples.specs.Samples.{bad_sample, any_bad}
 use Rattle.output.specs.Output.{with_place}
 use Rattle.output.specs.WellFormed.{bad_depth}
 use Rattle.rules.specs.declared.Device.{Device}
-use Rattle.rules.specs.State.{capture_of, fresh_of}
+use Rattle.rules.specs.State.{capture_of}
 use Rattle.rules.specs.Capture.{enabled}
 use Rattle.rules.specs.Run as run_rules
 use Rattle.rules.specs.RegisterCalls as register_rules

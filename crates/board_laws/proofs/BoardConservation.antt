@@ -36,7 +36,7 @@ use Rattle.board_rules.specs.declared.Board.{Board}
 use Rattle.board_rules.specs.State.{is_two, bad_mode, malformed}
 use Rattle.board_rules.specs.BoardCalls as board_calls
 use Rattle.board_rules.specs.BoardCalls.{mode_after, write, rearmed_mode, rearm, set_mode}
-use Rattle.board_rules.specs.BoardRuns.{one_refusal, run, sample, two_refusal, turns_of, opened, board, run_two, sample_two}
+use Rattle.board_rules.specs.BoardRuns.{one_refusal, run, sample, two_refusal, turns_of, opened, run_two, sample_two}
 use Rattle.board_rules.specs.TwoBuffers.{two_step, two_steps}
 use Rattle.board_rules.proofs.WellFormed.{TurnsOk, turns_facts, turns_well}
 use Rattle.board_laws.specs.BoardHistories.{Call, a_write, a_rearming, one_buffer, two_buffers, a_run, a_sample, a_run_two, a_sample_two, after, after_all, reached}

@@ -4,14 +4,13 @@
 use mathlib.Core.Bool.{Bool, true, false, cond, not, ◌||◌, true≢false}
 use mathlib.Core.List.{List, [], ◌∷◌, ◌++◌, map, append-nil}
 use mathlib.Core.Path.{◌≡◌, refl, ap, sym, ◌∙◌, subst}
-use Prim.Native.Nat.{ℕ, ◌+◌, ◌-◌}
+use Prim.Native.Nat.{ℕ}
 use native.Mathlib.Omega.{arith}
 use lib.Dec.{eqb, ltb}
 use lib.ListN.{length, take, drop, length-append}
 use lib.Seq.{length-take-le, drop_at}
 use borrow.Author.Tests.{ltb-false, le-ltb}
 use Rattle.bits.proofs.Booleans.{or_false, by_cond, either}
-use Rattle.buffers.specs.declared.Buffer.TheVariants.{A}
 use Rattle.buffers.specs.Turns.{fresh_turns}
 use Rattle.buffers.specs.Story as story
 use Rattle.buffers.specs.Story.{Tale, closed_otherwise, armed_anew}
@@ -37,7 +36,6 @@ use Rattle.board_rules.specs.State.{is_two, malformed}
 use Rattle.board_rules.specs.BoardCalls as board_calls
 use Rattle.board_rules.specs.BoardCalls.{mode_after, write, rearmed_mode, rearm, set_mode}
 use Rattle.board_rules.specs.BoardRuns.{one_refusal, run, sample, Lent, Both, refilled, beyond, memories, buffers, filled, two_refusal, turns_of, opened, board, run_two, sample_two}
-use Rattle.board_rules.specs.HandingBack.{frame_in}
 use Rattle.board_rules.specs.TwoBuffers as buffer_rules
 use Rattle.board_rules.specs.TwoBuffers.{Pair, two_steps}
 use Rattle.board_laws.specs.BoardHistories.{after, after_all, on_device, rearmed, mode_set, two_samplings, samplings_of, changes_of, device_events, happenings, happenings_of_all, frame_events, tell, tell_all}

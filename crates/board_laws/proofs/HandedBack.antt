@@ -1,5 +1,5 @@
--- W2, over every depth and every list of calls with one pair of memories and starts handed on: in mode two handing back answers what the history says (`handing-is-history`); where a frame is
--- complete the latest is handed back, and the part is the bytes of the words that it completed, in order (`handed-is-frame`).
+-- W2, over every depth and every list of calls with one pair of memories and starts handed on: in mode two handing back answers what the history says (`handing_is_history`); where a frame is
+-- complete the latest is handed back, and the part is the bytes of the words that it completed, in order (`handed_is_frame`).
 -- The idea: held words and frame buffers are as the history's frames tell (CallsHold); a complete frame's words have all landed, so that all of them stand there. Assumes nothing.
 use mathlib.Core.Bool.{Bool, true, false, cond, false≢true}
 use mathlib.Core.List.{List, []}

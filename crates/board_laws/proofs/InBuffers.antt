@@ -1,5 +1,5 @@
 -- What stands in two frame buffers, and which words are held, as the story's frames tell (`Holds`); and that each event keeps it so. Of the frame in a buffer the words that landed stand from
--- the buffer's first byte on, unless a re-arming came among its landings. The idea: a word lands at the place that counts its frame's landings since the last re-arming (`oldest-since`).
+-- the buffer's first byte on, unless a re-arming came among its landings. The idea: a word lands at the place that counts its frame's landings since the last re-arming (`oldest_since`).
 -- Assumes nothing.
 use mathlib.Core.Bool.{Bool, true, false, cond, not, ◌&&◌}
 use mathlib.Core.List.{List, [], ◌∷◌, ◌++◌, map}

@@ -1,11 +1,11 @@
 -- W2, two frame buffers in turn (document 02), sentence by sentence and reading by reading: calls in a row, worked out from the request by hand, proved of the rules by computation under
 -- one statement, `buffers_sheet`. Each row says which words it is for.
---   in-turn       the first frame to A, the switch, place 0, which frame is handed back
---   not-complete  overrun and disabling, in the frame and after it; re-arming; a padded word that is lost
+--   in_turn       the first frame to A, the switch, place 0, which frame is handed back
+--   not_complete  overrun and disabling, in the frame and after it; re-arming; a padded word that is lost
 --   by_codes      frames by codes (W6): a frame end, ERR, re-arming between FF 00 00 and XY
---   the-modes     setting the mode
---   mode-refusals 16, 9, 7 and their order
---   board-judged  the boards that "malformed" judges
+--   the_modes     setting the mode
+--   mode_refusals 16, 9, 7 and their order
+--   board_judged  the boards that "malformed" judges
 use mathlib.Core.Bool.{Bool, true, false, cond}
 use mathlib.Core.List.{List, [], ◌∷◌, ◌++◌, map}
 use mathlib.Core.Option.{Option, none, some}

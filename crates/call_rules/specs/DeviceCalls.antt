@@ -6,7 +6,6 @@ use Rattle.refusals.specs.Refusals.{Answer, refused, answered}
 use Rattle.buffers.specs.declared.Buffer.{Buffer}
 use Rattle.buffers.specs.declared.Buffer.TheVariants.{A, B}
 use Rattle.output.specs.Output.{Packed, nothing, completed, lost, SampleAnswer}
-use Rattle.rules.specs.Run as run_rules
 use Rattle.board_rules.specs.declared.Board.{Board}
 use Rattle.board_rules.specs.Answers.{Changed}
 use Rattle.board_rules.specs.TwoBuffers.{Pair, Landing}

@@ -50,7 +50,7 @@ after_write s =
     record { head = s.head; taken = s.taken; item = no_item; device = r.device; number = r.number }
 
 -- A sample with all its bytes, as a run of one: refused (1, 9, 7, 8), it leaves device and memory, and its number is remembered. On the device of a file's run 1 and 8 do not
--- occur (W8: `never-remembered`).
+-- occur (W8: `never_remembered`).
 unfoldable pub after_sample : ℕ → State → List ℕ → Taken
 after_sample start s memory =
     let r = run s.device memory start (number_at s.item 0 sample_size ∷ []) in

@@ -9,8 +9,6 @@ use lib.Dec.{eqb}
 use lib.ListN.{length, take, drop}
 use lib.Seq.{sets, length-sets, take_at}
 use borrow.Author.Tests.{ne_eqb, eqb-false}
-use types.Run.{OneOf, miss}
-use denote.Enum.Declared.{tag_of}
 use Rattle.bits.proofs.Booleans.{or_false}
 use Rattle.samples.specs.Samples.{bad_sample, any_bad}
 use Rattle.rules.specs.declared.Device.{Device}
@@ -21,7 +19,6 @@ use Rattle.laws.proofs.Keeps.{steps_append, steps_keep}
 use Rattle.laws.proofs.KeepsSample.{step_samples}
 use Rattle.trace_format.specs.Format.{sample_limit}
 use Rattle.trace_format.specs.Reading.{form_refusal, sample_count, sample_start, whole, samples_from, samples_of, file_refusal}
-use Rattle.trace.specs.contracts.Samples as samples_kinds
 use Rattle.trace.specs.declared.Samples as declared
 use Rattle.trace.specs.declared.Samples.TheVariants as samples_cases
 use Rattle.trace.specs.Answers.{samples}
@@ -142,11 +139,11 @@ module _ {f buffer₀ : List ℕ} {d₀ : Device} {buffer : List ℕ} {d : Devic
         let more = some form inside {array' = sets array 0 (samples_in next_many (drop (sample_start f k) f))} {n = next_many} refl refl in
         rw (ne_eqb next_many 0 (λ z. absurd (omega (arith, more.0))), good_next)
 
-    pub only_samples : (r : declared.Samples) → samples r ≡ samples_at f (sample_start f k) (sample_count f - k) (length array) → OneOf (1 ∷ 2 ∷ []) (tag_of samples_kinds.the_type r) → ⊥
+    pub only_samples : (r : declared.Samples) → samples r ≡ samples_at f (sample_start f k) (sample_count f - k) (length array) → ((n : ℕ) → r ≡ samples_cases.Many n → ⊥) → ⊥
     only_samples r e kind = go r kind (e ∙ some_next)
       where
-        go : (r : declared.Samples) → OneOf (1 ∷ 2 ∷ []) (tag_of samples_kinds.the_type r) → samples r ≡ many next_many → ⊥
-        go (samples_cases.Many v) kind e = miss (1 ∷ 2 ∷ []) 0 tt kind
+        go : (r : declared.Samples) → ((n : ℕ) → r ≡ samples_cases.Many n → ⊥) → samples r ≡ many next_many → ⊥
+        go (samples_cases.Many v) kind e = kind v refl
         go samples_cases.End kind e = clash cc
         go (samples_cases.Refused v) kind e = clash cc
 

@@ -1,4 +1,4 @@
--- Under the conditions every word finds room (`fits`, `oldest-room`), and what is promised of memory and FIFO holds after any first part of the inputs (`landed`).
+-- Under the conditions every word finds room (`fits`, `oldest_room`), and what is promised of memory and FIFO holds after any first part of the inputs (`landed`).
 use mathlib.Core.Bool.{Bool, true, false}
 use mathlib.Core.List.{List, [], ◌∷◌, ◌++◌, append_assoc, append-nil}
 use mathlib.Core.Option.{some}

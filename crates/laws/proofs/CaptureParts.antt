@@ -19,7 +19,7 @@ use Rattle.rules.specs.State.{is_open, is_taken, with_cr, with_ris, with_registe
 use Rattle.packing.specs.Packing.{width, per_word}
 use Rattle.packing.proofs.Lanes.{per_word_positive}
 use Rattle.rules.specs.Capture.{rate_period}
-use Rattle.rules.specs.WellFormed.{unused_bits, excluded, lines, pixels}
+use Rattle.rules.specs.WellFormed.{unused_bits, excluded}
 use Rattle.rules.proofs.WellFormed.{CaptureOk}
 use Rattle.laws.proofs.RegisterValues.{raised_fits, lowered_enable, lowered_setup, lowered_allowed, same_fcrc, same_edm}
 use Rattle.laws.proofs.Packing.{unused}

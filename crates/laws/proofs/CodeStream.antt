@@ -1,5 +1,5 @@
 -- With ESS 1 and ENABLE 1 (W6), for every device, frame buffer and list of samples: the codes and data that the rules act on, in order, and the bytes that wait in the end are those of the cut of the bytes
--- that waited before and then those at the working edges (`stream-is-cut`), so that no byte is lost or doubled (`no-byte-lost`); and what acting on them is (`acts-by-code`, `acts-by-data`).
+-- that waited before and then those at the working edges (`stream_is_cut`), so that no byte is lost or doubled (`no_byte_lost`); and what acting on them is (`acts_by_code`, `acts_by_data`).
 -- The idea: rule by rule what waits is set by the byte alone, and byte by byte the pieces are the cut's (`whole_after`). Assumes nothing.
 use mathlib.Core.Bool.{Bool, true, false, cond, ◌&&◌}
 use mathlib.Core.List.{List, [], ◌∷◌, ◌++◌, map}

@@ -1,5 +1,5 @@
 -- The bytes that wait after a sample with ESS 1 (W6): at a working edge with ENABLE 1 those that the byte leaves waiting (`waiting_after`), whatever frame, line, ERR and rule 9 do; else the same (`step_waits`).
--- So none waits after a byte that begins no code where none did (`data-waits`). The idea: data and codes leave what waits, which is set before them. Assumes nothing.
+-- So none waits after a byte that begins no code where none did (`data_waits`). The idea: data and codes leave what waits, which is set before them. Assumes nothing.
 use mathlib.Core.Bool.{Bool, true, false, cond, ◌&&◌}
 use mathlib.Core.List.{List}
 use mathlib.Core.Path.{◌≡◌, refl, ◌∙◌}

@@ -1,6 +1,6 @@
 -- FRAME and the window's last line (request W1), over every depth and every list of calls, with writes between the samples, at every moment: the test `window_ended` is what the history of the
--- open frame says (`window-ended-is-history`), and FRAME is due at most once in a frame (`frame-due-once`), just once in a taken one that
--- rule 4 ends (`frame-due-at-the-end`; with ESS 1, W6, `frame-due-at-the-end-code`).
+-- open frame says (`window_ended_is_history`), and FRAME is due at most once in a frame (`frame_due_once`), just once in a taken one that
+-- rule 4 ends (`frame_due_at_the_end`; with ESS 1, W6, `frame_due_at_the_end_code`).
 -- The idea: each sample and each write keeps the history told (`FrameEdges`, `FrameCodes`), no write changes window or CROP while a frame is open, and a moment is the end of a list of calls
 -- (`Moments`). Assumes nothing.
 use mathlib.Core.Bool.{Bool, true, false, cond, not, ◌&&◌}

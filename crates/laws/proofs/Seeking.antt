@@ -25,7 +25,7 @@ use Rattle.rules.specs.declared.Frame.{Frame}
 use Rattle.rules.specs.declared.Frame.TheVariants.{Closed, Open}
 use Rattle.rules.specs.declared.Capture.{Capture}
 use Rattle.rules.specs.declared.Device.{Device}
-use Rattle.rules.specs.State.{device, output_of, is_open, not_blanking, no_partial, raise, clear_capture, close_frame, with_cr, with_ris, with_registers, with_pins, with_syncs, with_frame, with_rate, with_partial, with_waiting}
+use Rattle.rules.specs.State.{output_of, is_open, not_blanking, no_partial, raise, clear_capture, close_frame, with_cr, with_ris, with_registers, with_pins, with_syncs, with_frame, with_rate, with_partial, with_waiting}
 use Rattle.rules.specs.Capture.{Captured, no_word, flagged, working_edge, enabled, remember_pins}
 use Rattle.rules.specs.Codes.{seeks, arrived, byte_in, taken_out, frame_opens, sought, at_code, at_byte, frame_ended}
 use Rattle.rules.specs.Sample.{byte_of, edge, capture_sample}

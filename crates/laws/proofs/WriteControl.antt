@@ -15,7 +15,7 @@ use Rattle.rules.specs.declared.Frame.{Frame}
 use Rattle.rules.specs.declared.Frame.TheVariants.{Closed, Open}
 use Rattle.rules.specs.declared.Capture.{Capture}
 use Rattle.rules.specs.State.{is_open, close_frame, with_cr, with_registers, with_syncs, with_frame, with_rate, with_partial, with_waiting}
-use Rattle.rules.specs.WellFormed.{excluded, unused_bits, lines, pixels}
+use Rattle.rules.specs.WellFormed.{excluded, unused_bits}
 use Rattle.rules.specs.RegisterCalls.{changes_setup, enabling, disabling, switch_enable, capture_rises, switch_capture, write_control}
 use Rattle.bits.proofs.Booleans.{or_false, and_false, by_cond, either}
 use Rattle.rules.proofs.WellFormed.{CaptureOk}

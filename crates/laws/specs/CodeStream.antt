@@ -1,5 +1,5 @@
 -- W6: the stream that a device with ESS 1 and ENABLE 1 reads: the bytes at the working edges of some samples, and the codes and data that the rules act on at them. That the latter are the cut of the
--- former (crate `codes`, Bytes) is a law (`stream-is-cut`).
+-- former (crate `codes`, Bytes) is a law (`stream_is_cut`).
 use Rattle.std.specs.Prelude.{cond, ◌&&◌, List, [], ◌∷◌, ◌++◌, ℕ}
 use Rattle.codes.specs.Bytes.{Piece, pieces_of}
 use Rattle.rules.specs.declared.Capture.{Capture}

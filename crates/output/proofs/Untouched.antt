@@ -10,7 +10,7 @@ use borrow.Author.Tests.{ltb-true}
 use Rattle.bits.proofs.Booleans.{by_cond}
 use Rattle.output.specs.declared.Fate.{Fate}
 use Rattle.output.specs.declared.Fate.TheVariants.{Held, Lost}
-use Rattle.output.specs.Output.{slot_count, OutputState, contents, push, laid, with_held, holding, with_counts, with_place, count_word, count_discarded, count_landed, room, Granted, no_landing, lands, oldest_lands, grant, Offered, offer, discard}
+use Rattle.output.specs.Output.{slot_count, OutputState, contents, push, with_held, holding, with_counts, with_place, count_word, count_discarded, count_landed, room, Granted, no_landing, lands, oldest_lands, grant, Offered, offer, discard}
 use Rattle.output.specs.WellFormed.{Laid}
 use Rattle.output.proofs.Contents.{holding_laid, held_length}
 

@@ -3,7 +3,6 @@
 // rule of the module that lost it. Nothing here knows of a camera. The functions that change the slots are in `fifo`.
 #![tactic(auto)]
 
-
 // How many slots there are, for the greatest depth; and the depth where none is named.
 pub const SLOTS: usize = 32;
 

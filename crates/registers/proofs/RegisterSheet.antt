@@ -1,6 +1,6 @@
 -- The register map and the fields, worked out by hand from document 01, "Registers", document 004, 32.5, and the requests, and proved by computation under one statement,
 -- `register_sheet`:
---   the-map      each register's offset, access and reserved bits, and whether refusal 6 has it; offsets where no register stands
+--   the_map      each register's offset, access and reserved bits, and whether refusal 6 has it; offsets where no register stands
 --   flags        each bit of CR is one field's; beside it FCRC and EDM, the delimiters, the unmask bits and the window, each field with another value
 --   values       refusal 5, clause by clause, with the neighbours that are accepted
 -- Assumes nothing.

@@ -1,7 +1,6 @@
 // The registers of the camera interface. Their map and their fields are definitions (specs/); the code for both is the crate `fields`.
 #![tactic(auto)]
 
-
 // The kinds of register.
 #[derive(Clone, Copy)]
 pub enum Register {

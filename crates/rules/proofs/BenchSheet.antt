@@ -2,7 +2,7 @@
 --   starred     the starred lines, in the paper's order
 --   mistakes    those of "Mistakes that look right" that the starred lines don't catch
 -- and what these leave open, since a definition changed together with its code would pass every other proof; each row says which sentence it is for:
---   by-rule     cases of the same form, in the order of the rules
+--   by_rule     cases of the same form, in the order of the rules
 --   by_call     calls in a row, with what each tells: registers, refusals, writing CR, single samples, memory
 --   judged      devices at the bounds of "Malformed means one of"
 -- and what only the state shows.

@@ -1,12 +1,12 @@
 -- W6, codes in the data (document 02), sentence by sentence and reading by reading: calls in a row, worked out from the request by hand, proved of the rules by
 -- computation under one statement, `codes_sheet`. Each row says which words it is for.
---   code-meanings     ESCR and ESUR: what a code means
---   coded-frames      frames and lines by codes: pixels, flags, CAPTURE, the rate, snapshots, FRAME
---   code-errors       ERR
---   only-frame-starts after enabling, ERR and overrun
+--   code_meanings     ESCR and ESUR: what a code means
+--   coded_frames      frames and lines by codes: pixels, flags, CAPTURE, the rate, snapshots, FRAME
+--   code_errors       ERR
+--   only_frame_starts after enabling, ERR and overrun
 --   releases          bytes that begin like a code and are none; bytes that wait
---   code-registers    ESCR, ESUR, ESS and SR
---   code-judged       the devices that "malformed" judges
+--   code_registers    ESCR, ESUR, ESS and SR
+--   code_judged       the devices that "malformed" judges
 -- and what only the state shows: place, rate counter, partial word, bytes that wait.
 use mathlib.Core.Bool.{Bool, true, false}
 use mathlib.Core.List.{List, [], ◌∷◌, ◌++◌, map}

@@ -1,8 +1,8 @@
 -- The change requests (document 02), sentence by sentence: calls in a row, worked out from the request by hand, proved of the rules by computation under one
 -- statement, `request_sheet`. A table for each request; each row says which words it is for.
---   early-frame W1, FRAME when the window's last line ends
---   depths      W9, a FIFO of another depth; and depth-judged, the devices that its clause of "malformed" judges
---   compressed  W4, compressed pictures; and jpeg-judged, the devices with JPEG 1 that "malformed" judges
+--   early_frame W1, FRAME when the window's last line ends
+--   depths      W9, a FIFO of another depth; and depth_judged, the devices that its clause of "malformed" judges
+--   compressed  W4, compressed pictures; and jpeg_judged, the devices with JPEG 1 that "malformed" judges
 -- W6, codes in the data, has a sheet of its own, `CodesSheet`.
 use mathlib.Core.Bool.{true, false}
 use mathlib.Core.List.{List, [], ◌∷◌, ◌++◌, map}

@@ -73,7 +73,7 @@ abbrev pub past_last_line : Capture → Scan → Bool
 past_last_line s f = ltb (lines_to_window_end s.registers) f.lines
 
 -- Rule 4, W1 (004, 32.5.3 FRAME_RIS): that line has ended: HSYNC has blanked at a working edge since it began. Then a later line has begun, or HSYNC blanked at the last
--- working edge; that this is the history of the frame is a law (crate laws, `window-ended-is-history`).
+-- working edge; that this is the history of the frame is a law (crate laws, `window_ended_is_history`).
 unfoldable pub window_ended : Capture → Scan → Bool
 window_ended s f = reached_last_line s f && (past_last_line s f || s.syncs.hsync)
 

@@ -8,7 +8,7 @@ use Rattle.samples.specs.Samples.{bus_grant}
 use lib.ListN.{length}
 use mathlib.Core.Bool.{true, false}
 use mathlib.Core.Option.{some}
-use Rattle.output.specs.Output.{slot_count, with_counts, count_sample, Granted, grant, counted, completed}
+use Rattle.output.specs.Output.{slot_count, with_counts, count_sample, Granted, grant, counted}
 use Rattle.output.specs.WellFormed.{Laid}
 use Rattle.output.proofs.Contents.{not_malformed_laid}
 use Rattle.output.proofs.Untouched.{grant_untouched}
@@ -16,7 +16,7 @@ use Rattle.rules.specs.WellFormed.{malformed, clauses}
 use Rattle.bits.proofs.Booleans.{none as all_false}
 use Rattle.rules.specs.declared.Capture.{Capture}
 use Rattle.rules.specs.declared.Device.{Device}
-use Rattle.rules.specs.State.{device, capture_of, output_of, with_pins, with_syncs}
+use Rattle.rules.specs.State.{capture_of, output_of, with_pins, with_syncs}
 use Rattle.rules.specs.Capture.{enabled, padded_at, Captured}
 use Rattle.rules.specs.Sample.{capture_sample}
 use Rattle.rules.specs.Unpadded.{unpadded_sample}

@@ -13,7 +13,7 @@ use borrow.Author.Tests.{leb-true, leb-false, le-leb, lt-leb, ne_eqb}
 use Rattle.numbers.specs.Numbers.{number_at}
 use Rattle.samples.specs.Samples.{bad_sample, any_bad}
 use Rattle.trace_format.specs.Reading.{sample_start, sample_at, samples_from}
-use Rattle.trace.specs.Decoding.{samples_in, how_many, Samples, many, the_end, refused, samples_at}
+use Rattle.trace.specs.Decoding.{samples_in, how_many, many, the_end, refused, samples_at}
 use Rattle.trace.specs.Answers.{samples}
 use Rattle.trace.specs.declared.Samples as declared
 use Rattle.trace.specs.declared.Samples.TheVariants as samples_cases

@@ -3,7 +3,6 @@
 // It knows nothing of the device. Each function answers for every slice and number, and states its answer as an equation with a definition.
 #![tactic(auto)]
 
-
 mod decoding;
 mod form;
 

@@ -1,4 +1,4 @@
--- A stretch in which the oldest held word has no room runs over its buffer (`runs-behind`): none lands, words that come are held behind the others or lost, and the turns follow from the numbers held
+-- A stretch in which the oldest held word has no room runs over its buffer (`runs_behind`): none lands, words that come are held behind the others or lost, and the turns follow from the numbers held
 -- before and after it. The idea: tags behind the oldest word leave its own. Assumes nothing.
 use mathlib.Core.Bool.{Bool, true, false, cond, not, true≢false}
 use mathlib.Core.List.{List}

@@ -1,5 +1,5 @@
--- Samples by the sync pins while VSYNC keeps its level. Where it does not blank no frame ends, and after a word no frame starts (`word-calms`); with no frame open and none to start the
--- samples complete no word (`still-sample`). Assumes nothing.
+-- Samples by the sync pins while VSYNC keeps its level. Where it does not blank no frame ends, and after a word no frame starts (`word_calms`); with no frame open and none to start the
+-- samples complete no word (`still_sample`). Assumes nothing.
 use mathlib.Core.Bool.{Bool, true, false, cond, not, ◌&&◌, beq, false≢true}
 use mathlib.Core.List.{[]}
 use mathlib.Core.Option.{Option, none, some}

@@ -1,4 +1,4 @@
--- What a stretch has done, by the counts before and after it (`done_by`): a sample's landing and word make of it what its events make of the turns (`events-done`). The counts only grow.
+-- What a stretch has done, by the counts before and after it (`done_by`): a sample's landing and word make of it what its events make of the turns (`events_done`). The counts only grow.
 -- Assumes nothing.
 use mathlib.Core.Bool.{Bool, true, false}
 use mathlib.Core.Option.{Option, none, some}

@@ -1,4 +1,4 @@
--- Stretches as the code finds and runs them: what the calls in `run_on` and `run_behind` ask and that their answers are the rules' (`stretch-run`, `behind-run`), and that the samples up to `stretch_end` are a stretch
+-- Stretches as the code finds and runs them: what the calls in `run_on` and `run_behind` ask and that their answers are the rules' (`stretch_run`, `behind_run`), and that the samples up to `stretch_end` are a stretch
 -- (`stretch_to`). Assumes nothing.
 use mathlib.Core.Bool.{Bool, true, false, cond, beq, false≢true}
 use mathlib.Core.List.{List, [], ◌∷◌}

@@ -10,13 +10,13 @@ pack-requires c = rw (c.with_scan-placed.ensures, c.apart-s.ensures) c.requires.
 pub returns-then-captured : goal.returns-then-captured
 unfolding pixel no_word
 returns-then-captured c = rw (
-      ← c.apart-s.ensures,
-      ← c.next_pixel-next.ensures,
-      ← c.with_scan-placed.ensures,
-      ← c.captured.ensures,
-      c.if-captured.true,
-      ← c.pack.ensures,
-    )
+  ← c.apart-s.ensures,
+  ← c.next_pixel-next.ensures,
+  ← c.with_scan-placed.ensures,
+  ← c.captured.ensures,
+  c.if-captured.true,
+  ← c.pack.ensures,
+)
 
 pub returns : goal.returns
 unfolding pixel no_word

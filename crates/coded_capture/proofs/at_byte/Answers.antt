@@ -11,12 +11,12 @@ at_code-requires c = rw (c.with_waiting.ensures, c.taken_out.ensures)
 pub returns-then-is_code : goal.returns-then-is_code
 unfolding at_byte
 returns-then-is_code c = rw (
-      ← c.is_code.ensures,
-      c.if-is_code.true,
-      ← c.meaning_of-meaning.ensures,
-      ← c.taken_out.ensures,
-      ← c.with_waiting.ensures,
-    )
+  ← c.is_code.ensures,
+  c.if-is_code.true,
+  ← c.meaning_of-meaning.ensures,
+  ← c.taken_out.ensures,
+  ← c.with_waiting.ensures,
+)
     c.at_code.ensures
 
 pub returns : goal.returns

@@ -26,11 +26,11 @@ returns-in-Closed c = rw (c.in-Closed.is, ← c.waiting_after-still.ensures, ←
 pub returns-else-s : goal.returns-else-s
 unfolding byte_in
 returns-else-s c = rw (
-      c.in-Open.is,
-      ← c.waiting_after-still.ensures,
-      ← c.arrived-place.ensures,
-      ← c.with_scan.ensures,
-      ← c.with_waiting-t.ensures,
-      c.if-s.false,
-    )
+  c.in-Open.is,
+  ← c.waiting_after-still.ensures,
+  ← c.arrived-place.ensures,
+  ← c.with_scan.ensures,
+  ← c.with_waiting-t.ensures,
+  c.if-s.false,
+)
     (rw (← c.waiting_after-still.ensures) at c.each_datum.ensures)

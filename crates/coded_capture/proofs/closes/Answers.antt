@@ -10,10 +10,10 @@ end_flags-requires c = rw c.with_syncs-u.ensures c.requires
 pub returns : goal.returns
 unfolding closes with_syncs
 returns c = rw (
-      c.with_syncs-state.ensures,
-      c.frame_closes-closed.ensures,
-      c.end_flags.ensures,
-      c.frame_due-due.ensures,
-      c.with_syncs-u.ensures,
-      c.coded_syncs.ensures,
-    )
+  c.with_syncs-state.ensures,
+  c.frame_closes-closed.ensures,
+  c.end_flags.ensures,
+  c.frame_due-due.ensures,
+  c.with_syncs-u.ensures,
+  c.coded_syncs.ensures,
+)

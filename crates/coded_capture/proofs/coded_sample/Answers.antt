@@ -10,12 +10,12 @@ at_byte-requires c = rw (c.remember_pins-seen.ensures, c.apart-s.ensures) (pins_
 pub returns-then-goes_on : goal.returns-then-goes_on
 unfolding capture_sample edge byte_of
 returns-then-goes_on c = rw (
-      c.requires.cr_value,
-      ← c.apart-s.ensures,
-      sym c.goes_on.ensures ∙ c.if-goes_on.true,
-      ← c.remember_pins-seen.ensures,
-      ← c.pixel_data.ensures,
-    )
+  c.requires.cr_value,
+  ← c.apart-s.ensures,
+  sym c.goes_on.ensures ∙ c.if-goes_on.true,
+  ← c.remember_pins-seen.ensures,
+  ← c.pixel_data.ensures,
+)
     c.at_byte.ensures
 
 pub returns : goal.returns

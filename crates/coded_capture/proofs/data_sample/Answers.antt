@@ -8,9 +8,9 @@ use Rattle.coded_capture.proofs.data_sample.Goals as goal
 pub line_datum-requires : goal.line_datum-requires
 unfolding byte_of
 line_datum-requires c = let empty = pins_wait _ _ c.remember_pins-seen.ensures (rw c.apart-s.ensures c.requires.cr_value.1) in record {
-      frame_value = (refl, empty, rw c.pixel_data.ensures c.requires.cr_value.2);
-      capture_ok = rw (c.remember_pins-seen.ensures, c.apart-s.ensures) (pins_ok _ c.requires.capture_ok);
-    }
+  frame_value = (refl, empty, rw c.pixel_data.ensures c.requires.cr_value.2);
+  capture_ok = rw (c.remember_pins-seen.ensures, c.apart-s.ensures) (pins_ok _ c.requires.capture_ok);
+}
 
 pub returns-then-goes_on : goal.returns-then-goes_on
 unfolding capture_sample edge byte_of

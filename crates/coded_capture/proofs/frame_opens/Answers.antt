@@ -6,13 +6,13 @@ use Rattle.coded_capture.proofs.frame_opens.Goals as goal
 pub returns-then-capture : goal.returns-then-capture
 unfolding frame_opens first_place with_rate
 returns-then-capture c = rw (
-      ← c.capture.ensures,
-      c.if-capture.true,
-      ← c.next_rate-rate.ensures,
-      ← c.takes-taken.ensures,
-      ← c.with_scan-t.ensures,
-      ← c.with_syncs.ensures,
-    )
+  ← c.capture.ensures,
+  c.if-capture.true,
+  ← c.next_rate-rate.ensures,
+  ← c.takes-taken.ensures,
+  ← c.with_scan-t.ensures,
+  ← c.with_syncs.ensures,
+)
 
 pub returns : goal.returns
 unfolding frame_opens first_place

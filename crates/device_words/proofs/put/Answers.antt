@@ -1,6 +1,6 @@
 -- `device_words::put` meets its contract. Assumes nothing.
 use mathlib.Core.Path.{◌≡◌, refl, ap, ◌∙◌}
-use Prim.Native.Nat.{ℕ, ◌-◌}
+use Prim.Native.Nat.{ℕ}
 use lib.ListN.{length, length-set}
 use lib.Seq.{paste, paste-zero, paste-suc}
 use native.Mathlib.Numerals.{add-one}
@@ -10,7 +10,7 @@ use Rattle.device_words.proofs.put.Goals as goal
 pub loop-i-preserved : goal.loop-i-preserved
 loop-i-preserved c = let a = c.args in
     let (e, n, le) = c.loop-i.invariant in
-        (rw (e, add-one) (paste-suc a.words.now a.at a.part.now c.loop-i.i 0 (omega arith) (omega arith)), rw length-set n, omega arith)
+    (rw (e, add-one) (paste-suc a.words.now a.at a.part.now c.loop-i.i 0 (omega arith) (omega arith)), rw length-set n, omega arith)
 
 pub returns : goal.returns
 returns c = let a = c.args in

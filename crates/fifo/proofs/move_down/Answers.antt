@@ -1,5 +1,4 @@
 -- `fifo::move_down` meets its contract. Assumes nothing.
-use Prim.Native.Nat.{◌-◌}
 use native.Mathlib.Omega.{arith}
 use Rattle.fifo.proofs.Moving.{starts, moves, moved}
 use Rattle.fifo.proofs.move_down.Goals as goal

@@ -11,10 +11,10 @@ returns-in_default c = c.run_samples.ensures _
 pub returns : goal.returns
 unfolding run_on
 returns c = rw (
-      c.refused.ensures,
-      c.requires.file_value,
-      ← c.set_up-ready.ensures.result_value,
-      c.in-Refused.is,
-      never_zero c.in-Refused.refusal,
-      never_zero c.in-Refused.refusal,
-    )
+  c.refused.ensures,
+  c.requires.file_value,
+  ← c.set_up-ready.ensures.result_value,
+  c.in-Refused.is,
+  never_zero c.in-Refused.refusal,
+  never_zero c.in-Refused.refusal,
+)

@@ -12,17 +12,17 @@ run_on-requires c = rw (ap (λ (r : Changed). r.device) c.made-made.ensures) (ma
 pub returns-in_default : goal.returns-in_default
 unfolding run_file_of run_on
 returns-in_default c = rw (
-      c.run_on.ensures,
-      ← c.made-made.ensures,
-      c.in_default.is,
-    )
+  c.run_on.ensures,
+  ← c.made-made.ensures,
+  c.in_default.is,
+)
 
 pub returns : goal.returns
 unfolding run_file_of
 returns c = rw (
-      c.refused.ensures,
-      ← c.made-made.ensures,
-      c.in-Refused.is,
-      never_zero c.in-Refused.refusal,
-      never_zero c.in-Refused.refusal,
-    )
+  c.refused.ensures,
+  ← c.made-made.ensures,
+  c.in-Refused.is,
+  never_zero c.in-Refused.refusal,
+  never_zero c.in-Refused.refusal,
+)

@@ -14,9 +14,9 @@ returns-in_default c = c.run_content.ensures
 pub returns : goal.returns
 unfolding run_on
 returns c = rw (
-      c.refused.ensures,
-      ← c.check_form-form.ensures,
-      c.in-Refused.is,
-      never_zero c.in-Refused.refusal,
-      never_zero c.in-Refused.refusal,
-    )
+  c.refused.ensures,
+  ← c.check_form-form.ensures,
+  c.in-Refused.is,
+  never_zero c.in-Refused.refusal,
+  never_zero c.in-Refused.refusal,
+)

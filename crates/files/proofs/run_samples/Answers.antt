@@ -20,7 +20,7 @@ pub returns-in_default : goal.returns-in_default
 unfolding run_on
 returns-in_default c fresh set = let good = (accepted_file _ (sym c.check_file-checked.ensures ∙ ap outcome c.in_default.is)).1 in
     let ran = rw tail_part at c.steps-device.ensures in
-        rw (
+    rw (
       c.requires.file_value,
       set,
       le-ltb _ _ c.if-memory-start.false,
@@ -33,4 +33,4 @@ returns-in_default c fresh set = let good = (accepted_file _ (sym c.check_file-c
 pub returns : goal.returns
 unfolding run_on
 returns c fresh set = let (bad, seven) = refused_file _ c.in-Refused.refusal c.requires.file_value (sym (ap outcome c.in-Refused.is) ∙ c.check_file-checked.ensures) in
-        rw (c.refused-2.ensures, c.requires.file_value, set, le-ltb _ _ c.if-memory-start.false, bad, seven)
+    rw (c.refused-2.ensures, c.requires.file_value, set, le-ltb _ _ c.if-memory-start.false, bad, seven)

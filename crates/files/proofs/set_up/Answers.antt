@@ -1,5 +1,4 @@
 -- `files::set_up` meets its contract: the writes left lead to the same end.
-use Prim.Native.Nat.{◌-◌}
 use borrow.Author.Rules.{rules}
 use mathlib.Core.Path.{sym, ap, ◌∙◌}
 use native.Mathlib.Omega.{arith}
@@ -13,10 +12,10 @@ pub loop-place-init : goal.loop-place-init
 loop-place-init c = starting _ _ c.requires.0 c.requires.1
 
 pub returns-in_default-item : goal.returns-in_default-item
-returns-in_default-item c = let h = c.in_default.not-Write in ?
+returns-in_default-item c = absurd (a_write _ _ c.item_at-item.result (rw c.write_count-writes.ensures.value at c.loop-place-test.true) c.item_at-item.ensures.result_value c.in_default.not-Write)
 
 pub returns-in_default : goal.returns-in_default
-returns-in_default c = let h = c.in_default.not-Write in ?
+returns-in_default c = absurd (a_write _ _ c.item_at-item.result (rw c.write_count-writes.ensures.value at c.loop-place-test.true) c.item_at-item.ensures.result_value c.in_default.not-Write)
 
 pub returns-in_default-outcome : goal.returns-in_default-outcome
 returns-in_default-outcome c = let s = c.loop-place.invariant in

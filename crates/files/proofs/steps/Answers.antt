@@ -1,5 +1,5 @@
 -- `files::steps` meets its contract: the samples left lead to the same end.
-use Prim.Native.Nat.{◌+◌, ◌-◌, ◌*◌}
+use Prim.Native.Nat.{◌+◌, ◌*◌}
 use mathlib.Core.Path.{◌≡◌, refl, sym}
 use native.Mathlib.Omega.{arith}
 use lib.Seq.{length-take-le}
@@ -90,7 +90,7 @@ returns-in_default c = let a = c.args in
     let place : c.samples_start-from.result + 3 * l.done ≡ sample_start a.file.now l.done = omega (arith, c.samples_start-from.ensures.value) in
     let inside = rw c.sample_count-count.ensures.value at c.loop-done-test.true in
     let answer = rw (place, c.sample_count-count.ensures.value) at c.samples_at-next.ensures.result_value in
-    let h = c.in_default.not-Many in ?
+    absurd (only_samples l.invariant c.requires.file_value inside c.samples_at-next.result answer c.in_default.not-Many)
 
 pub shape_of-buffer : goal.shape_of-buffer
 shape_of-buffer c = c.loop-done.invariant.long

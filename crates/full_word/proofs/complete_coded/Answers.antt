@@ -8,11 +8,11 @@ use Rattle.full_word.proofs.complete_coded.Goals as goal
 pub returns-then-c : goal.returns-then-c
 unfolding complete flagged
 returns-then-c c = rw (
-      c.in-Nothing.is,
-      ← c.flagged-capture.ensures,
-      c.if-c.true,
-      ← c.discard-output.ensures,
-    )
+  c.in-Nothing.is,
+  ← c.flagged-capture.ensures,
+  c.if-c.true,
+  ← c.discard-output.ensures,
+)
 
 pub returns-in-Nothing : goal.returns-in-Nothing
 unfolding complete flagged

@@ -1,7 +1,6 @@
 -- `parts::take` meets its contract.
 use mathlib.Core.Path.{refl, ◌∙◌}
 use native.Mathlib.Omega.{arith}
-use Prim.Native.Nat.{◌-◌}
 use Rattle.parts.specs.Answers.{taken}
 use Rattle.parts.proofs.Stretch.{taken_on, taken_all}
 use Rattle.parts.proofs.take.Goals as goal
@@ -21,7 +20,7 @@ loop-at-smaller c = omega (arith, c.take_some-next.ensures.bytes_nonzero.0, c.lo
 pub loop-at-preserved : goal.loop-at-preserved
 loop-at-preserved c = let a = c.args in
     let l = c.loop-at in
-        (taken_on a.start (taken l.p l.memory) (taken a.parts a.memory.now) _ a.bytes.now l.at c.take_some-next.result.bytes l.invariant.0 c.take_some-next.ensures.memory_after, c.take_some-next.auto.memory ∙ l.invariant.1)
+    (taken_on a.start (taken l.p l.memory) (taken a.parts a.memory.now) _ a.bytes.now l.at c.take_some-next.result.bytes l.invariant.0 c.take_some-next.ensures.memory_after, c.take_some-next.auto.memory ∙ l.invariant.1)
 
 pub shape_of-memory : goal.shape_of-memory
 shape_of-memory c = c.loop-at.invariant.1

@@ -46,8 +46,11 @@ overflow_add-passed c = let many = taken_apart _ _ _ _ _ _ c.in-Many.is (rw c.sa
 
 pub returns-then-fine : goal.returns-then-fine
 returns-then-fine c = let many = taken_apart _ _ _ _ _ _ c.in-Many.is (rw c.samples_left.ensures.value at c.samples_at-next.ensures.result_value) in
-    let front = rw (c.samples_left.ensures.value, ← many.is) at c.samples_at-next.ensures.array_after in     record { bytes_in_bounds = (few _ _ _ _ c.requires _ _ _ many.is front).2; memory_after = rw c.cleared.ensures.1
-          (stretch_taken _ _ _ _ c.requires _ _ _ many.is front _ _ _ _ _ (record { number = outcome c.run-ran.result.outcome; device = c.run-ran.result.device; memory = _ }) c.cleared.ensures.0 (sym c.fine.ensures ∙ c.if-fine.true) many.some c.run-ran.ensures (ap outcome c.in-Accepted.is)) }
+    let front = rw (c.samples_left.ensures.value, ← many.is) at c.samples_at-next.ensures.array_after in record {
+      bytes_in_bounds = (few _ _ _ _ c.requires _ _ _ many.is front).2;
+      memory_after = rw c.cleared.ensures.1
+          (stretch_taken _ _ _ _ c.requires _ _ _ many.is front _ _ _ _ _ (record { number = outcome c.run-ran.result.outcome; device = c.run-ran.result.device; memory = _ }) c.cleared.ensures.0 (sym c.fine.ensures ∙ c.if-fine.true) many.some c.run-ran.ensures (ap outcome c.in-Accepted.is));
+    }
 
 pub returns : goal.returns
 returns c = record { bytes_in_bounds = omega (arith, c.requires); memory_after = none_taken _ _ _ refl }

@@ -85,4 +85,4 @@ returns-then-k-landed c = let high : 5 ≤ c.args.k = omega (arith, c.if-k-eq4.f
 
 pub returns : goal.returns
 returns c = let high : 5 ≤ c.args.k = omega (arith, c.if-k-eq4.false, c.if-k-eq3.false, c.if-k-eq2.false, c.if-k-eq1.false, c.if-k-eq0.false) in
-        rw (no_line c.args.d c.args.memory.now c.args.k high c.if-k-landed.false) (sym (put_none 0 _))
+    rw (no_line c.args.d c.args.memory.now c.args.k high c.if-k-landed.false) (sym (put_none 0 _))

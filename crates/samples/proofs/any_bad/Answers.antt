@@ -1,6 +1,6 @@
 -- `samples::any_bad` meets its contract. Assumes nothing.
 -- The loop keeps that a sample is bad exactly if one was found or one of those from i on is.
-use Prim.Native.Nat.{◌≤◌, ◌-◌, ℕ, ◌<◌}
+use Prim.Native.Nat.{◌≤◌, ℕ, ◌<◌}
 use lib.ListN.{length, drop_of_length-le}
 use lib.Seq.{drop-cons}
 use mathlib.Core.Path.{refl, sym}
@@ -28,8 +28,8 @@ unfolding any_bad
 loop-i-preserved c = let inside : c.loop-i.i < length c.args.list.now = c.loop-i-test.true in
     let next = rw (drop-cons {A = ℕ} _ _ 0 inside, ← c.bad_sample.ensures) at c.loop-i.invariant in
     elim c.if-bad_sample.branch [
-      then-bad_sample w ↦ rw w.any-is (rw (w.if-bad_sample.true, or_true) at next)
-    | else-bad_sample w ↦ rw (w.any-is, add-one) (rw w.if-bad_sample.false at next)
+      | then-bad_sample w ↦ rw w.any-is (rw (w.if-bad_sample.true, or_true) at next)
+      | else-bad_sample w ↦ rw (w.any-is, add-one) (rw w.if-bad_sample.false at next)
     ]
 
 pub returns : goal.returns

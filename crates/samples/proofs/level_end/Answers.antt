@@ -1,6 +1,6 @@
 -- `samples::level_end` meets its contract: the loop keeps what is left of the run. Assumes nothing.
 use mathlib.Core.Path.{refl, sym, ◌∙◌}
-use Prim.Native.Nat.{ℕ, ◌-◌, ◌<◌, ◌≤◌}
+use Prim.Native.Nat.{ℕ, ◌<◌, ◌≤◌}
 use lib.ListN.{length, drop_of_length-le}
 use lib.Seq.{drop-cons}
 use native.Mathlib.Nat.{add-zero}

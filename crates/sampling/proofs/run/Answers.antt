@@ -1,5 +1,5 @@
 -- `sampling::run` meets its contract. Assumes nothing.
-use lib.ListN.{length, length-map}
+use lib.ListN.{length}
 use mathlib.Core.Path.{◌≡◌, ap, ◌∙◌}
 use Rattle.output.specs.Output.{slot_count}
 use Rattle.sampling.specs.Answers.{ran}

@@ -30,5 +30,5 @@ unfolding counted
 returns c = let a = c.args in
     let g = rw (c.count_sample-counted.ensures, c.apart-s.ensures) at c.granted-g.ensures in
     let s = rw c.apart-s.ensures at c.unpadded_sample.ensures in
-        rw (c.note_landing.ensures, c.note_packing.ensures)
+    rw (c.note_landing.ensures, c.note_packing.ensures)
     (stepped (device a.d a.slots.now) a.buffer.now a.landings.now a.words.now a.w c.requires.plain g s c.complete-c.ensures)

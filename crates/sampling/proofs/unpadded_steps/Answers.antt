@@ -1,5 +1,4 @@
 -- `sampling::unpadded_steps` meets its contract: the loop keeps `Going`, and each turn is one step of the rules. Assumes nothing.
-use Prim.Native.Nat.{◌-◌}
 use mathlib.Core.Path.{sym}
 use native.Mathlib.Omega.{arith}
 use Rattle.sampling.proofs.Going.{starting, going_on, going_end}
@@ -26,7 +25,7 @@ loop-i-smaller c = omega (arith, c.loop-i-test.true)
 pub loop-i-preserved : goal.loop-i-preserved
 loop-i-preserved c = let (g, left) = c.loop-i.invariant in
     let inside = c.loop-i-test.true in
-        (going_on g _ inside c.step-e.ensures c.step-e.auto.buffer, rest_unpadded _ _ _ _ inside left c.step-e.ensures)
+    (going_on g _ inside c.step-e.ensures c.step-e.auto.buffer, rest_unpadded _ _ _ _ inside left c.step-e.ensures)
 
 pub shape_of-buffer : goal.shape_of-buffer
 shape_of-buffer c = c.loop-i.invariant.0.long

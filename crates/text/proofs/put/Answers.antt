@@ -1,6 +1,5 @@
 -- `text::put` meets its contract: what is left of the bytes, put from the place on, leads to the same.
 use mathlib.Core.Path.{refl, ◌∙◌}
-use Prim.Native.Nat.{◌-◌}
 use Rattle.text.proofs.Appending.{put_on, put_over}
 use Rattle.text.proofs.put.Goals as goal
 
@@ -9,9 +8,9 @@ loop-i-init c = (refl, refl)
 
 pub loop-i-preserved : goal.loop-i-preserved
 loop-i-preserved c = let l = c.loop-i in (
-      put_on _ _ _ _ _ l.invariant.0 _ _ c.loop-i-test.true c.put_byte-place.ensures,
-      c.put_byte-place.auto.buffer ∙ l.invariant.1,
-    )
+  put_on _ _ _ _ _ l.invariant.0 _ _ c.loop-i-test.true c.put_byte-place.ensures,
+  c.put_byte-place.auto.buffer ∙ l.invariant.1,
+)
 
 pub shape_of-buffer : goal.shape_of-buffer
 shape_of-buffer c = c.loop-i.invariant.1

@@ -1,5 +1,4 @@
 -- `trace_writer::put_samples` meets its contract.
-use Prim.Native.Nat.{◌-◌}
 use native.Mathlib.Omega.{arith}
 use Rattle.numbers.proofs.Putting.{kept, filled}
 use Rattle.trace_format.specs.Format.{sample_bytes}

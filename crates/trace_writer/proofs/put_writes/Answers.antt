@@ -1,5 +1,4 @@
 -- `trace_writer::put_writes` meets its contract.
-use Prim.Native.Nat.{◌-◌}
 use native.Mathlib.Omega.{arith}
 use Rattle.numbers.proofs.Putting.{kept, filled}
 use Rattle.trace_format.specs.Format.{write_bytes}

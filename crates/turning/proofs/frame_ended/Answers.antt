@@ -15,11 +15,11 @@ with_turn-requires-then-t c = search rules
 pub returns-then-t : goal.returns-then-t
 unfolding frame_ended with_turn
 returns-then-t c = rw (
-      ← c.frame_over-over.ensures,
-      c.if-t.true,
-      le-ltb _ _ c.if-held-gt0.false,
-      ← c.with_turn-then-t.ensures,
-    )
+  ← c.frame_over-over.ensures,
+  c.if-t.true,
+  le-ltb _ _ c.if-held-gt0.false,
+  ← c.with_turn-then-t.ensures,
+)
 
 pub with_turn-requires-2 : goal.with_turn-requires-2
 unfolding frame_ended with_turn

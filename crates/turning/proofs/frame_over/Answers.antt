@@ -5,12 +5,12 @@ use Rattle.turning.proofs.frame_over.Goals as goal
 pub returns-then-is_landing : goal.returns-then-is_landing
 unfolding frame_over
 returns-then-is_landing c = rw (
-      ← c.known.ensures,
-      ← c.is_landing.ensures,
-      c.if-is_landing.true,
-      ← c.with_content.ensures,
-      ← c.with_latest.ensures,
-    )
+  ← c.known.ensures,
+  ← c.is_landing.ensures,
+  c.if-is_landing.true,
+  ← c.with_content.ensures,
+  ← c.with_latest.ensures,
+)
 
 pub returns : goal.returns
 unfolding frame_over

@@ -18,23 +18,23 @@ is_complete-requires-2 c = search rules
 pub returns-then-is_complete-2 : goal.returns-then-is_complete-2
 unfolding latest_complete
 returns-then-is_complete-2 c = rw (
-      ← c.known.ensures,
-      ← c.is_complete.ensures,
-      c.if-is_complete.false,
-      ← c.other-before.ensures,
-      ← c.known-2.ensures,
-      ← c.is_complete-2.ensures,
-      c.if-is_complete-2.true,
-    )
+  ← c.known.ensures,
+  ← c.is_complete.ensures,
+  c.if-is_complete.false,
+  ← c.other-before.ensures,
+  ← c.known-2.ensures,
+  ← c.is_complete-2.ensures,
+  c.if-is_complete-2.true,
+)
 
 pub returns : goal.returns
 unfolding latest_complete
 returns c = rw (
-      ← c.known.ensures,
-      ← c.is_complete.ensures,
-      c.if-is_complete.false,
-      ← c.other-before.ensures,
-      ← c.known-2.ensures,
-      ← c.is_complete-2.ensures,
-      c.if-is_complete-2.false,
-    )
+  ← c.known.ensures,
+  ← c.is_complete.ensures,
+  c.if-is_complete.false,
+  ← c.other-before.ensures,
+  ← c.known-2.ensures,
+  ← c.is_complete-2.ensures,
+  c.if-is_complete-2.false,
+)

@@ -9,17 +9,17 @@ returns-then-oldest_opens c = rw (← c.oldest_opens.ensures, c.if-oldest_opens.
 pub returns-in-A : goal.returns-in-A
 unfolding oldest_place
 returns-in-A c = rw (
-      ← c.oldest_opens.ensures,
-      c.if-oldest_opens.false,
-      ← c.oldest_buffer-u.ensures,
-      c.in-A.is,
-    )
+  ← c.oldest_opens.ensures,
+  c.if-oldest_opens.false,
+  ← c.oldest_buffer-u.ensures,
+  c.in-A.is,
+)
 
 pub returns-in-B : goal.returns-in-B
 unfolding oldest_place
 returns-in-B c = rw (
-      ← c.oldest_opens.ensures,
-      c.if-oldest_opens.false,
-      ← c.oldest_buffer-u.ensures,
-      c.in-B.is,
-    )
+  ← c.oldest_opens.ensures,
+  c.if-oldest_opens.false,
+  ← c.oldest_buffer-u.ensures,
+  c.in-B.is,
+)

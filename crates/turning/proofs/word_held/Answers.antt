@@ -33,9 +33,9 @@ marked-opening-requires c = rw (c.first_word-u.ensures, (tags c.args.t).1) (sear
 pub returns : goal.returns
 unfolding word_held
 returns c = rw (
-      ← c.first_word-u.ensures,
-      ← c.is_b.ensures,
-      ← c.marked-in_b.ensures,
-      ← (c.marked-opening.ensures ∙ not-cond c.args.t.begun _ _),
-      ← c.with_tags.ensures,
-    )
+  ← c.first_word-u.ensures,
+  ← c.is_b.ensures,
+  ← c.marked-in_b.ensures,
+  ← (c.marked-opening.ensures ∙ not-cond c.args.t.begun _ _),
+  ← c.with_tags.ensures,
+)

@@ -10,22 +10,22 @@ overflow_sub-held c = search rules
 pub returns-then-last_of_frame : goal.returns-then-last_of_frame
 unfolding word_landed
 returns-then-last_of_frame c = rw (
-      ← c.oldest_buffer-u.ensures,
-      ← c.oldest_opens.ensures,
-      ← c.opened.ensures,
-      ← c.with_tags-l.ensures,
-      ← c.last_of_frame.ensures,
-      c.if-last_of_frame.true,
-      ← c.frame_over.ensures,
-    )
+  ← c.oldest_buffer-u.ensures,
+  ← c.oldest_opens.ensures,
+  ← c.opened.ensures,
+  ← c.with_tags-l.ensures,
+  ← c.last_of_frame.ensures,
+  c.if-last_of_frame.true,
+  ← c.frame_over.ensures,
+)
 
 pub returns : goal.returns
 unfolding word_landed
 returns c = rw (
-      ← c.oldest_buffer-u.ensures,
-      ← c.oldest_opens.ensures,
-      ← c.opened.ensures,
-      ← c.with_tags-l.ensures,
-      ← c.last_of_frame.ensures,
-      c.if-last_of_frame.false,
-    )
+  ← c.oldest_buffer-u.ensures,
+  ← c.oldest_opens.ensures,
+  ← c.opened.ensures,
+  ← c.with_tags-l.ensures,
+  ← c.last_of_frame.ensures,
+  c.if-last_of_frame.false,
+)

@@ -19,4 +19,4 @@ returns c = let a = c.args in
     c.error_at.ensures
     c.closes-ended.ensures
     c.after_frame-last.ensures in
-        rw c.placed.ensures (ap (λ (k : Kept). turned k a.core) last)
+    rw c.placed.ensures (ap (λ (k : Kept). turned k a.core) last)

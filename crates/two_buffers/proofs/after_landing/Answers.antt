@@ -6,12 +6,12 @@ use Rattle.two_buffers.proofs.after_landing.Goals as goal
 pub returns-then-k-gt0 : goal.returns-then-k-gt0
 unfolding keep keeps
 returns-then-k-gt0 c = rw (
-      c.in-At.is,
-      lt-ltb _ _ c.if-k-gt0.true,
-      ← c.oldest_buffer.ensures,
-      ← c.oldest_place.ensures,
-      ← c.landed_at.ensures,
-    )
+  c.in-At.is,
+  lt-ltb _ _ c.if-k-gt0.true,
+  ← c.oldest_buffer.ensures,
+  ← c.oldest_place.ensures,
+  ← c.landed_at.ensures,
+)
 
 pub returns-in-Nowhere : goal.returns-in-Nowhere
 unfolding keeps

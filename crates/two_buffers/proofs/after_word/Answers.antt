@@ -7,7 +7,7 @@ use Rattle.two_buffers.proofs.after_word.Goals as goal
 
 pub word_held-turns-requires : goal.word_held-turns-requires
 word_held-turns-requires c = let fits = c.requires _ (ap packing c.in-Completed.is) in
-        (fits.held, fits.buffers, fits.opening)
+    (fits.held, fits.buffers, fits.opening)
 
 pub overflow_add-result : goal.overflow_add-result
 overflow_add-result c =

@@ -13,7 +13,7 @@ pub loop-i-init : goal.loop-i-init
 loop-i-init c = starting _ _ c.requires.well_formed c.requires.turns_ok c.requires.laid
 
 pub stretch_end-k-requires : goal.stretch_end-k-requires
-stretch_end-k-requires c = let g = c.loop-i.invariant in     (omega (arith, g.laid.fits, g.laid.within), c.loop-i-test.true)
+stretch_end-k-requires c = let g = c.loop-i.invariant in (omega (arith, g.laid.fits, g.laid.within), c.loop-i-test.true)
 
 pub slice_bounds-run_stretch-count : goal.slice_bounds-run_stretch-count
 slice_bounds-run_stretch-count c = omega (arith, c.if-i-k.true)

@@ -7,12 +7,12 @@ use Rattle.well_formed.proofs.above_samples.Goals as goal
 pub returns : goal.returns
 unfolding above_samples
 returns c = rw (
-      ← c.lines.ensures,
-      ← c.pixels.ensures,
-      le-ltb _ _ c.if-d-lines.false,
-      le-ltb _ _ c.if-d-pixels.false,
-      or_unit,
-    )
+  ← c.lines.ensures,
+  ← c.pixels.ensures,
+  le-ltb _ _ c.if-d-lines.false,
+  le-ltb _ _ c.if-d-pixels.false,
+  or_unit,
+)
 
 pub returns-then-d-lines : goal.returns-then-d-lines
 unfolding above_samples

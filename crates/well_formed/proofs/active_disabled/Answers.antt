@@ -7,35 +7,35 @@ use Rattle.well_formed.proofs.active_disabled.Goals as goal
 pub returns-then-d-gt0 : goal.returns-then-d-gt0
 unfolding active_disabled
 returns-then-d-gt0 c = rw (
-      ← c.enable.ensures,
-      ← c.is_open.ensures,
-      c.if-enable.false,
-      c.if-is_open.false,
-      lt-ltb _ _ c.if-d-gt0.true,
-    )
+  ← c.enable.ensures,
+  ← c.is_open.ensures,
+  c.if-enable.false,
+  c.if-is_open.false,
+  lt-ltb _ _ c.if-d-gt0.true,
+)
 
 pub returns-then-s-gt0 : goal.returns-then-s-gt0
 unfolding active_disabled
 returns-then-s-gt0 c = rw (
-      ← c.enable.ensures,
-      ← c.is_open.ensures,
-      c.if-enable.false,
-      c.if-is_open.false,
-      le-ltb _ _ c.if-d-gt0.false,
-      lt-ltb _ _ c.if-s-gt0.true,
-    )
+  ← c.enable.ensures,
+  ← c.is_open.ensures,
+  c.if-enable.false,
+  c.if-is_open.false,
+  le-ltb _ _ c.if-d-gt0.false,
+  lt-ltb _ _ c.if-s-gt0.true,
+)
 
 pub returns : goal.returns
 unfolding active_disabled
 returns c = rw (
-      ← c.enable.ensures,
-      ← c.is_open.ensures,
-      c.if-enable.false,
-      c.if-is_open.false,
-      le-ltb _ _ c.if-d-gt0.false,
-      le-ltb _ _ c.if-s-gt0.false,
-      or_unit,
-    )
+  ← c.enable.ensures,
+  ← c.is_open.ensures,
+  c.if-enable.false,
+  c.if-is_open.false,
+  le-ltb _ _ c.if-d-gt0.false,
+  le-ltb _ _ c.if-s-gt0.false,
+  or_unit,
+)
 
 pub returns-then-enable : goal.returns-then-enable
 unfolding active_disabled

@@ -7,17 +7,17 @@ use Rattle.well_formed.proofs.excluded.Goals as goal
 pub returns : goal.returns
 unfolding excluded
 returns c = rw (
-      ← c.reserved_set.ensures,
-      ← c.reserved_set-2.ensures,
-      ← c.reserved_set-3.ensures,
-      ← c.reserved_set-4.ensures,
-      ← c.unsupported.ensures,
-      c.if-reserved_set.false,
-      c.if-reserved_set-2.false,
-      c.if-reserved_set-3.false,
-      c.if-reserved_set-4.false,
-      or_unit,
-    )
+  ← c.reserved_set.ensures,
+  ← c.reserved_set-2.ensures,
+  ← c.reserved_set-3.ensures,
+  ← c.reserved_set-4.ensures,
+  ← c.unsupported.ensures,
+  c.if-reserved_set.false,
+  c.if-reserved_set-2.false,
+  c.if-reserved_set-3.false,
+  c.if-reserved_set-4.false,
+  or_unit,
+)
 
 pub returns-then-reserved_set : goal.returns-then-reserved_set
 unfolding excluded

@@ -7,20 +7,20 @@ use Rattle.well_formed.proofs.malformed_core.Goals as goal
 pub returns : goal.returns
 unfolding malformed
 returns c = rw (
-      sym c.bad_fifo.ensures ∙ c.if-bad_fifo.false,
-      sym c.unused_bits.ensures ∙ c.if-unused_bits.false,
-      sym c.full_partial.ensures ∙ c.if-full_partial.false,
-      sym c.excluded.ensures ∙ c.if-excluded.false,
-      sym c.bad_flags.ensures ∙ c.if-bad_flags.false,
-      sym c.active_disabled.ensures ∙ c.if-active_disabled.false,
-      sym c.partial_outside.ensures ∙ c.if-partial_outside.false,
-      sym c.bad_rate.ensures ∙ c.if-bad_rate.false,
-      sym c.above_samples.ensures ∙ c.if-above_samples.false,
-      sym c.bad_place.ensures ∙ c.if-bad_place.false,
-      sym c.bad_counts.ensures ∙ c.if-bad_counts.false,
-      ← c.bad_depth.ensures,
-      or_unit,
-    )
+  sym c.bad_fifo.ensures ∙ c.if-bad_fifo.false,
+  sym c.unused_bits.ensures ∙ c.if-unused_bits.false,
+  sym c.full_partial.ensures ∙ c.if-full_partial.false,
+  sym c.excluded.ensures ∙ c.if-excluded.false,
+  sym c.bad_flags.ensures ∙ c.if-bad_flags.false,
+  sym c.active_disabled.ensures ∙ c.if-active_disabled.false,
+  sym c.partial_outside.ensures ∙ c.if-partial_outside.false,
+  sym c.bad_rate.ensures ∙ c.if-bad_rate.false,
+  sym c.above_samples.ensures ∙ c.if-above_samples.false,
+  sym c.bad_place.ensures ∙ c.if-bad_place.false,
+  sym c.bad_counts.ensures ∙ c.if-bad_counts.false,
+  ← c.bad_depth.ensures,
+  or_unit,
+)
 
 pub returns-then-bad_fifo : goal.returns-then-bad_fifo
 unfolding malformed

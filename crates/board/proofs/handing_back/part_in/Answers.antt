@@ -7,4 +7,4 @@ use Rattle.board.proofs.handing_back.part_in.Goals as goal
 pub returns : goal.returns
 returns c = let a = c.args in
     let all : a.start + a.bytes - a.start ≡ a.bytes = omega arith in
-        rw all
+    rw all

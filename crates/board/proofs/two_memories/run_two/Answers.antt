@@ -15,7 +15,7 @@ returns-in-Refused c = sym (run_refused _ _ _ _
 pub returns-in-Accepted : goal.returns-in-Accepted
 returns-in-Accepted c = let mode = c.in-Two.is in
     let a = c.args in
-        rw (put_tail a.memory_a.now, put_tail a.memory_b.now)
+    rw (put_tail a.memory_a.now, put_tail a.memory_b.now)
     (run_accepted _ _ _ _ mode
     (refusal_by _ _ _ _ mode c.malformed-bad.ensures c.refusal_of_both-outcome.ensures ∙ ap outcome c.in-Accepted.is)
     (rw (tail_part a.memory_a.now, tail_part a.memory_b.now) at c.accepted_run.ensures))
@@ -23,7 +23,7 @@ returns-in-Accepted c = let mode = c.in-Two.is in
 pub accepted_run-requires : goal.accepted_run-requires
 accepted_run-requires c =
     let a : Passed c.args.b c.in-Two.turns (both c.args.memory_a.now c.args.start_a c.args.memory_b.now c.args.start_b) c.args.samples.now =
-        passes _ _ _ _ c.in-Two.is (refusal_by _ _ _ _ c.in-Two.is c.malformed-bad.ensures c.refusal_of_both-outcome.ensures ∙ ap outcome c.in-Accepted.is) in
+    passes _ _ _ _ c.in-Two.is (refusal_by _ _ _ _ c.in-Two.is c.malformed-bad.ensures c.refusal_of_both-outcome.ensures ∙ ap outcome c.in-Accepted.is) in
     a.accepts
 
 pub returns-in-One : goal.returns-in-One
@@ -32,11 +32,11 @@ returns-in-One c = rw c.unmatched.ensures (sym (run_in_one _ _ _ c.in-One.is))
 pub slice_bounds-accepted_run-start : goal.slice_bounds-accepted_run-start
 slice_bounds-accepted_run-start c =
     let a : Passed c.args.b c.in-Two.turns (both c.args.memory_a.now c.args.start_a c.args.memory_b.now c.args.start_b) c.args.samples.now =
-        passes _ _ _ _ c.in-Two.is (refusal_by _ _ _ _ c.in-Two.is c.malformed-bad.ensures c.refusal_of_both-outcome.ensures ∙ ap outcome c.in-Accepted.is) in
+    passes _ _ _ _ c.in-Two.is (refusal_by _ _ _ _ c.in-Two.is c.malformed-bad.ensures c.refusal_of_both-outcome.ensures ∙ ap outcome c.in-Accepted.is) in
     a.in_a
 
 pub slice_bounds-accepted_run-start-in-Accepted : goal.slice_bounds-accepted_run-start-in-Accepted
 slice_bounds-accepted_run-start-in-Accepted c =
     let a : Passed c.args.b c.in-Two.turns (both c.args.memory_a.now c.args.start_a c.args.memory_b.now c.args.start_b) c.args.samples.now =
-        passes _ _ _ _ c.in-Two.is (refusal_by _ _ _ _ c.in-Two.is c.malformed-bad.ensures c.refusal_of_both-outcome.ensures ∙ ap outcome c.in-Accepted.is) in
+    passes _ _ _ _ c.in-Two.is (refusal_by _ _ _ _ c.in-Two.is c.malformed-bad.ensures c.refusal_of_both-outcome.ensures ∙ ap outcome c.in-Accepted.is) in
     a.in_b

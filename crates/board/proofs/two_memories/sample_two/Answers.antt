@@ -28,7 +28,7 @@ returns-in-Refused c = sym (sample_refused _ _ _ _
 pub returns-in-Accepted : goal.returns-in-Accepted
 returns-in-Accepted c = let mode = c.in-Two.is in
     let a = c.args in
-        rw (put_tail a.memory_a.now, put_tail a.memory_b.now)
+    rw (put_tail a.memory_a.now, put_tail a.memory_b.now)
     (sample_accepted _ _ _ _ mode
     (refusal_by _ _ _ _ mode c.malformed-bad.ensures c.refusal_of_both-outcome.ensures ∙ ap outcome c.in-Accepted.is)
     (rw (tail_part a.memory_a.now, tail_part a.memory_b.now) at c.accepted_sample-after.ensures)
@@ -37,7 +37,7 @@ returns-in-Accepted c = let mode = c.in-Two.is in
 pub accepted_sample-after-requires : goal.accepted_sample-after-requires
 accepted_sample-after-requires c =
     let a : Passed c.args.b c.in-Two.turns (both c.args.memory_a.now c.args.start_a c.args.memory_b.now c.args.start_b) (c.args.w ∷ []) =
-        passes _ _ _ _ c.in-Two.is (refusal_by _ _ _ _ c.in-Two.is c.malformed-bad.ensures c.refusal_of_both-outcome.ensures ∙ ap outcome c.in-Accepted.is) in
+    passes _ _ _ _ c.in-Two.is (refusal_by _ _ _ _ c.in-Two.is c.malformed-bad.ensures c.refusal_of_both-outcome.ensures ∙ ap outcome c.in-Accepted.is) in
     a.accepts
 
 pub returns-in-One : goal.returns-in-One
@@ -46,11 +46,11 @@ returns-in-One c = rw c.unmatched.ensures (sym (sample_in_one _ _ _ c.in-One.is)
 pub slice_bounds-accepted_sample-start : goal.slice_bounds-accepted_sample-start
 slice_bounds-accepted_sample-start c =
     let a : Passed c.args.b c.in-Two.turns (both c.args.memory_a.now c.args.start_a c.args.memory_b.now c.args.start_b) (c.args.w ∷ []) =
-        passes _ _ _ _ c.in-Two.is (refusal_by _ _ _ _ c.in-Two.is c.malformed-bad.ensures c.refusal_of_both-outcome.ensures ∙ ap outcome c.in-Accepted.is) in
+    passes _ _ _ _ c.in-Two.is (refusal_by _ _ _ _ c.in-Two.is c.malformed-bad.ensures c.refusal_of_both-outcome.ensures ∙ ap outcome c.in-Accepted.is) in
     a.in_a
 
 pub slice_bounds-accepted_sample-start-in-Accepted : goal.slice_bounds-accepted_sample-start-in-Accepted
 slice_bounds-accepted_sample-start-in-Accepted c =
     let a : Passed c.args.b c.in-Two.turns (both c.args.memory_a.now c.args.start_a c.args.memory_b.now c.args.start_b) (c.args.w ∷ []) =
-        passes _ _ _ _ c.in-Two.is (refusal_by _ _ _ _ c.in-Two.is c.malformed-bad.ensures c.refusal_of_both-outcome.ensures ∙ ap outcome c.in-Accepted.is) in
+    passes _ _ _ _ c.in-Two.is (refusal_by _ _ _ _ c.in-Two.is c.malformed-bad.ensures c.refusal_of_both-outcome.ensures ∙ ap outcome c.in-Accepted.is) in
     a.in_b

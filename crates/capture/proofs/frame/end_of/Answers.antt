@@ -5,23 +5,23 @@ use Rattle.capture.proofs.frame.end_of.Goals as goal
 pub returns-then-snapshot : goal.returns-then-snapshot
 unfolding end_of
 returns-then-snapshot c = rw (
-      c.in-Open.is,
-      c.if-taken.true,
-      ← c.snapshot.ensures,
-      c.if-snapshot.true,
-      ← c.clear_capture.ensures,
-      ← c.close_frame.ensures,
-    )
+  c.in-Open.is,
+  c.if-taken.true,
+  ← c.snapshot.ensures,
+  c.if-snapshot.true,
+  ← c.clear_capture.ensures,
+  ← c.close_frame.ensures,
+)
 
 pub returns-then-taken : goal.returns-then-taken
 unfolding end_of
 returns-then-taken c = rw (
-      c.in-Open.is,
-      c.if-taken.true,
-      ← c.snapshot.ensures,
-      c.if-snapshot.false,
-      ← c.close_frame-then-taken.ensures,
-    )
+  c.in-Open.is,
+  c.if-taken.true,
+  ← c.snapshot.ensures,
+  c.if-snapshot.false,
+  ← c.close_frame-then-taken.ensures,
+)
 
 pub returns-in-Closed : goal.returns-in-Closed
 unfolding end_of

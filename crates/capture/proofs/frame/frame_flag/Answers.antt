@@ -5,12 +5,12 @@ use Rattle.capture.proofs.frame.frame_flag.Goals as goal
 pub returns-then-frame_rises : goal.returns-then-frame_rises
 unfolding frame_due
 returns-then-frame_rises c = rw (
-      c.in-Open.is,
-      c.if-taken.true,
-      ← c.frame_rises.ensures,
-      c.if-frame_rises.true,
-      ← c.raise_frame.ensures,
-    )
+  c.in-Open.is,
+  c.if-taken.true,
+  ← c.frame_rises.ensures,
+  c.if-frame_rises.true,
+  ← c.raise_frame.ensures,
+)
 
 pub returns-then-taken : goal.returns-then-taken
 unfolding frame_due

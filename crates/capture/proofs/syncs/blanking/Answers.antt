@@ -5,10 +5,10 @@ use Rattle.capture.proofs.syncs.blanking.Goals as goal
 pub returns : goal.returns
 unfolding blanking
 returns c = rw (
-      ← c.hsync_pin.ensures,
-      ← c.hspol.ensures,
-      ← c.blanks-hsync.ensures,
-      ← c.vsync_pin.ensures,
-      ← c.vspol.ensures,
-      ← c.blanks-vsync.ensures,
-    )
+  ← c.hsync_pin.ensures,
+  ← c.hspol.ensures,
+  ← c.blanks-hsync.ensures,
+  ← c.vsync_pin.ensures,
+  ← c.vspol.ensures,
+  ← c.blanks-vsync.ensures,
+)

@@ -5,12 +5,12 @@ use Rattle.device.proofs.control_writes.capture_rises.Goals as goal
 pub returns-then-capture-2 : goal.returns-then-capture-2
 unfolding capture_rises
 returns-then-capture-2 c = rw (
-      ← c.capture.ensures,
-      ← c.capture-2.ensures,
-      ← c.is_open.ensures,
-      c.if-capture.false,
-      c.if-capture-2.true,
-    )
+  ← c.capture.ensures,
+  ← c.capture-2.ensures,
+  ← c.is_open.ensures,
+  c.if-capture.false,
+  c.if-capture-2.true,
+)
 
 pub returns-then-capture : goal.returns-then-capture
 unfolding capture_rises

@@ -21,11 +21,11 @@ overflow_add-result-2 c =
 pub returns : goal.returns
 unfolding status
 returns c = rw (
-      ← c.shown_syncs-shown.ensures,
-      ← c.number_if-hsync.ensures,
-      ← c.number_if-vsync.ensures,
-      ← c.number_if-fne.ensures,
-    )
+  ← c.shown_syncs-shown.ensures,
+  ← c.number_if-hsync.ensures,
+  ← c.number_if-vsync.ensures,
+  ← c.number_if-fne.ensures,
+)
 
 pub overflow_add-result : goal.overflow_add-result
 overflow_add-result c =

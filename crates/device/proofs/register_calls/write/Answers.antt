@@ -8,58 +8,58 @@ use Rattle.device.proofs.register_calls.write.Goals as goal
 pub returns-then-no_write : goal.returns-then-no_write
 unfolding write write_refusal
 returns-then-no_write c = rw (
-      sym c.at-found.ensures ∙ c.in-At.is,
-      ← c.malformed.ensures,
-      ← c.access.ensures,
-      ← c.no_write.ensures,
-      c.if-malformed.false,
-      c.if-no_write.true,
-    )
+  sym c.at-found.ensures ∙ c.in-At.is,
+  ← c.malformed.ensures,
+  ← c.access.ensures,
+  ← c.no_write.ensures,
+  c.if-malformed.false,
+  c.if-no_write.true,
+)
 
 pub returns-then-reserved_set : goal.returns-then-reserved_set
 unfolding write write_refusal
 returns-then-reserved_set c = rw (
-      sym c.at-found.ensures ∙ c.in-At.is,
-      ← c.malformed.ensures,
-      ← c.access.ensures,
-      ← c.no_write.ensures,
-      ← c.reserved_set.ensures,
-      c.if-malformed.false,
-      c.if-no_write.false,
-      c.if-reserved_set.true,
-    )
+  sym c.at-found.ensures ∙ c.in-At.is,
+  ← c.malformed.ensures,
+  ← c.access.ensures,
+  ← c.no_write.ensures,
+  ← c.reserved_set.ensures,
+  c.if-malformed.false,
+  c.if-no_write.false,
+  c.if-reserved_set.true,
+)
 
 pub returns-then-unsupported_at : goal.returns-then-unsupported_at
 unfolding write write_refusal
 returns-then-unsupported_at c = rw (
-      sym c.at-found.ensures ∙ c.in-At.is,
-      ← c.malformed.ensures,
-      ← c.access.ensures,
-      ← c.no_write.ensures,
-      ← c.reserved_set.ensures,
-      ← c.unsupported_at.ensures,
-      c.if-malformed.false,
-      c.if-no_write.false,
-      c.if-reserved_set.false,
-      c.if-unsupported_at.true,
-    )
+  sym c.at-found.ensures ∙ c.in-At.is,
+  ← c.malformed.ensures,
+  ← c.access.ensures,
+  ← c.no_write.ensures,
+  ← c.reserved_set.ensures,
+  ← c.unsupported_at.ensures,
+  c.if-malformed.false,
+  c.if-no_write.false,
+  c.if-reserved_set.false,
+  c.if-unsupported_at.true,
+)
 
 pub returns-then-fixed_at : goal.returns-then-fixed_at
 unfolding write write_refusal
 returns-then-fixed_at c = rw (
-      sym c.at-found.ensures ∙ c.in-At.is,
-      ← c.malformed.ensures,
-      ← c.access.ensures,
-      ← c.no_write.ensures,
-      ← c.reserved_set.ensures,
-      ← c.unsupported_at.ensures,
-      ← c.fixed_at.ensures,
-      c.if-malformed.false,
-      c.if-no_write.false,
-      c.if-reserved_set.false,
-      c.if-unsupported_at.false,
-      c.if-fixed_at.true,
-    )
+  sym c.at-found.ensures ∙ c.in-At.is,
+  ← c.malformed.ensures,
+  ← c.access.ensures,
+  ← c.no_write.ensures,
+  ← c.reserved_set.ensures,
+  ← c.unsupported_at.ensures,
+  ← c.fixed_at.ensures,
+  c.if-malformed.false,
+  c.if-no_write.false,
+  c.if-reserved_set.false,
+  c.if-unsupported_at.false,
+  c.if-fixed_at.true,
+)
 
 pub write_at-after-requires : goal.write_at-after-requires
 write_at-after-requires c = let well = facts c.args.d (sym c.malformed.ensures ∙ c.if-malformed.false) in
@@ -68,20 +68,20 @@ write_at-after-requires c = let well = facts c.args.d (sym c.malformed.ensures �
 pub returns : goal.returns
 unfolding write write_refusal
 returns c = rw (
-      sym c.at-found.ensures ∙ c.in-At.is,
-      ← c.malformed.ensures,
-      ← c.access.ensures,
-      ← c.no_write.ensures,
-      ← c.reserved_set.ensures,
-      ← c.unsupported_at.ensures,
-      ← c.fixed_at.ensures,
-      ← c.write_at-after.ensures,
-      c.if-malformed.false,
-      c.if-no_write.false,
-      c.if-reserved_set.false,
-      c.if-unsupported_at.false,
-      c.if-fixed_at.false,
-    )
+  sym c.at-found.ensures ∙ c.in-At.is,
+  ← c.malformed.ensures,
+  ← c.access.ensures,
+  ← c.no_write.ensures,
+  ← c.reserved_set.ensures,
+  ← c.unsupported_at.ensures,
+  ← c.fixed_at.ensures,
+  ← c.write_at-after.ensures,
+  c.if-malformed.false,
+  c.if-no_write.false,
+  c.if-reserved_set.false,
+  c.if-unsupported_at.false,
+  c.if-fixed_at.false,
+)
 
 pub returns-then-malformed : goal.returns-then-malformed
 unfolding write write_refusal

@@ -10,10 +10,10 @@ use Rattle.device.proofs.runs.run.Goals as goal
 pub returns-in-Accepted : goal.returns-in-Accepted
 unfolding run
 returns-in-Accepted c = rw (
-      sym c.run_refusal-outcome.ensures ∙ ap outcome c.in-Accepted.is,
-      put_tail,
-      ← rw tail_part at c.run-device.ensures,
-    )
+  sym c.run_refusal-outcome.ensures ∙ ap outcome c.in-Accepted.is,
+  put_tail,
+  ← rw tail_part at c.run-device.ensures,
+)
 
 pub slice_bounds-run-count : goal.slice_bounds-run-count
 slice_bounds-run-count c =

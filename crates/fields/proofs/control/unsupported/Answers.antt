@@ -14,37 +14,37 @@ returns-then-unsupported_codes c = rw (← c.unsupported_jpeg.ensures, ← c.uns
 pub returns-then-fcrc-eq3 : goal.returns-then-fcrc-eq3
 unfolding unsupported
 returns-then-fcrc-eq3 c = rw (
-      ← c.unsupported_jpeg.ensures,
-      ← c.unsupported_codes.ensures,
-      ← c.fcrc.ensures,
-      c.if-unsupported_jpeg.false,
-      c.if-unsupported_codes.false,
-      eq-eqb _ _ c.if-fcrc-eq3.true,
-    )
+  ← c.unsupported_jpeg.ensures,
+  ← c.unsupported_codes.ensures,
+  ← c.fcrc.ensures,
+  c.if-unsupported_jpeg.false,
+  c.if-unsupported_codes.false,
+  eq-eqb _ _ c.if-fcrc-eq3.true,
+)
 
 pub returns-then-capture : goal.returns-then-capture
 unfolding unsupported
 returns-then-capture c = rw (
-      ← c.unsupported_jpeg.ensures,
-      ← c.unsupported_codes.ensures,
-      ← c.fcrc.ensures,
-      ← c.capture.ensures,
-      ← c.enable.ensures,
-      c.if-unsupported_jpeg.false,
-      c.if-unsupported_codes.false,
-      ne_eqb _ _ c.if-fcrc-eq3.false,
-      c.if-capture.true,
-    )
+  ← c.unsupported_jpeg.ensures,
+  ← c.unsupported_codes.ensures,
+  ← c.fcrc.ensures,
+  ← c.capture.ensures,
+  ← c.enable.ensures,
+  c.if-unsupported_jpeg.false,
+  c.if-unsupported_codes.false,
+  ne_eqb _ _ c.if-fcrc-eq3.false,
+  c.if-capture.true,
+)
 
 pub returns : goal.returns
 unfolding unsupported
 returns c = rw (
-      ← c.unsupported_jpeg.ensures,
-      ← c.unsupported_codes.ensures,
-      ← c.fcrc.ensures,
-      ← c.capture.ensures,
-      c.if-unsupported_jpeg.false,
-      c.if-unsupported_codes.false,
-      ne_eqb _ _ c.if-fcrc-eq3.false,
-      c.if-capture.false,
-    )
+  ← c.unsupported_jpeg.ensures,
+  ← c.unsupported_codes.ensures,
+  ← c.fcrc.ensures,
+  ← c.capture.ensures,
+  c.if-unsupported_jpeg.false,
+  c.if-unsupported_codes.false,
+  ne_eqb _ _ c.if-fcrc-eq3.false,
+  c.if-capture.false,
+)

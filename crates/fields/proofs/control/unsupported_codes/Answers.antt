@@ -10,12 +10,12 @@ returns-then-edm-ne0 c = rw (← c.embedded.ensures, ← c.edm.ensures, c.if-emb
 pub returns-then-embedded : goal.returns-then-embedded
 unfolding unsupported_codes
 returns-then-embedded c = rw (
-      ← c.embedded.ensures,
-      ← c.edm.ensures,
-      ← c.jpeg.ensures,
-      c.if-embedded.true,
-      eq-eqb _ _ c.if-edm-ne0.false,
-    )
+  ← c.embedded.ensures,
+  ← c.edm.ensures,
+  ← c.jpeg.ensures,
+  c.if-embedded.true,
+  eq-eqb _ _ c.if-edm-ne0.false,
+)
 
 pub returns : goal.returns
 unfolding unsupported_codes

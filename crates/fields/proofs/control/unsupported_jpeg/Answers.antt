@@ -6,12 +6,12 @@ use Rattle.fields.proofs.control.unsupported_jpeg.Goals as goal
 pub returns-then-edm-eq0 : goal.returns-then-edm-eq0
 unfolding unsupported_jpeg
 returns-then-edm-eq0 c = rw (
-      ← c.jpeg.ensures,
-      ← c.edm.ensures,
-      ← c.crop.ensures,
-      c.if-jpeg.true,
-      eq-eqb _ _ c.if-edm-eq0.true,
-    )
+  ← c.jpeg.ensures,
+  ← c.edm.ensures,
+  ← c.crop.ensures,
+  c.if-jpeg.true,
+  eq-eqb _ _ c.if-edm-eq0.true,
+)
 
 pub returns-then-jpeg : goal.returns-then-jpeg
 unfolding unsupported_jpeg

@@ -46,14 +46,14 @@ returns-then-offset-eq-CWSIZE c = rw c.if-offset-eq-CWSIZE.true
 pub returns : goal.returns
 unfolding register_at
 returns c = rw (
-      ne_eqb _ _ c.if-offset-eq-CR.false,
-      ne_eqb _ _ c.if-offset-eq-SR.false,
-      ne_eqb _ _ c.if-offset-eq-RIS.false,
-      ne_eqb _ _ c.if-offset-eq-IER.false,
-      ne_eqb _ _ c.if-offset-eq-MIS.false,
-      ne_eqb _ _ c.if-offset-eq-ICR.false,
-      ne_eqb _ _ c.if-offset-eq-ESCR.false,
-      ne_eqb _ _ c.if-offset-eq-ESUR.false,
-      ne_eqb _ _ c.if-offset-eq-CWSTRT.false,
-      ne_eqb _ _ c.if-offset-eq-CWSIZE.false,
-    )
+  ne_eqb _ _ c.if-offset-eq-CR.false,
+  ne_eqb _ _ c.if-offset-eq-SR.false,
+  ne_eqb _ _ c.if-offset-eq-RIS.false,
+  ne_eqb _ _ c.if-offset-eq-IER.false,
+  ne_eqb _ _ c.if-offset-eq-MIS.false,
+  ne_eqb _ _ c.if-offset-eq-ICR.false,
+  ne_eqb _ _ c.if-offset-eq-ESCR.false,
+  ne_eqb _ _ c.if-offset-eq-ESUR.false,
+  ne_eqb _ _ c.if-offset-eq-CWSTRT.false,
+  ne_eqb _ _ c.if-offset-eq-CWSIZE.false,
+)

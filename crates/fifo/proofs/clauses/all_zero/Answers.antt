@@ -1,6 +1,6 @@
 -- `fifo::clauses::all_zero` meets its contract. Assumes nothing.
 -- The loop keeps that the slots are all 0 exactly if those seen are and those from i on are.
-use Prim.Native.Nat.{ℕ, ◌-◌, ◌<◌, ◌≤◌}
+use Prim.Native.Nat.{ℕ, ◌<◌, ◌≤◌}
 use borrow.Author.Tests.{eq-eqb, ne_eqb}
 use lib.ListN.{length, drop_of_length-le}
 use lib.Seq.{drop-cons}
@@ -20,8 +20,8 @@ loop-i-preserved c =
     let inside : c.loop-i.i < length c.args.slots.now = omega arith in
     let next = rw (drop-cons {A = ℕ} _ _ 0 inside) at c.loop-i.invariant in
     elim c.if-slots-i-ne0.branch [
-      then-slots-i-ne0 w ↦ rw w.zero-is (rw (ne_eqb _ _ w.if-slots-i-ne0.true, and_zero) at next)
-    | else-slots-i-ne0 w ↦ rw (w.zero-is, add-one) (rw (eq-eqb _ _ w.if-slots-i-ne0.false) at next)
+      | then-slots-i-ne0 w ↦ rw w.zero-is (rw (ne_eqb _ _ w.if-slots-i-ne0.true, and_zero) at next)
+      | else-slots-i-ne0 w ↦ rw (w.zero-is, add-one) (rw (eq-eqb _ _ w.if-slots-i-ne0.false) at next)
     ]
 
 pub returns : goal.returns

@@ -31,5 +31,5 @@ unfolding counted
 returns c = let a = c.args in
     let left = rw (c.count_sample-counted.ensures, c.apart-s.ensures) at c.granted-g.ensures in
     let s = rw c.apart-s.ensures at c.data_sample.ensures in
-        rw (c.note_landing.ensures, c.note_packing.ensures)
+    rw (c.note_landing.ensures, c.note_packing.ensures)
     (stepped_coded (device a.d a.slots.now) a.buffer.now a.landings.now a.words.now a.w left s c.complete-c.ensures)

@@ -1,7 +1,7 @@
 -- `sampling::coded::next_begin` meets its contract: the loop keeps what is left of the run. Assumes nothing.
 use mathlib.Core.List.{List}
 use mathlib.Core.Path.{refl, sym, ap, ◌∙◌}
-use Prim.Native.Nat.{ℕ, ◌-◌}
+use Prim.Native.Nat.{ℕ}
 use lib.ListN.{drop_of_length-le}
 use native.Mathlib.Numerals.{add-one}
 use native.Mathlib.Omega.{arith}
@@ -35,7 +35,7 @@ loop-i-preserved c = let a = c.args in
     let (within, left) = c.loop-i.invariant in
     let i = c.loop-i.i in
     let on = run_on a.samples.now i inside (rw (← c.pixel_data.ensures) (sym c.begins_code.ensures ∙ c.if-begins_code.false)) in
-        (omega (arith, inside), rw add-one (omega (arith, left, on)))
+    (omega (arith, inside), rw add-one (omega (arith, left, on)))
 
 pub returns : goal.returns
 returns c = let a = c.args in

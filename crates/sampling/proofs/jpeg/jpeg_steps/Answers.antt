@@ -34,15 +34,15 @@ stretch-k-requires c = c.loop-i-test.true
 
 pub slice_bounds-unpadded_steps-count : goal.slice_bounds-unpadded_steps-count
 slice_bounds-unpadded_steps-count c = let within = stretch_within (device c.loop-i.e c.loop-i.slots) c.loop-i.buffer c.args.samples.now c.loop-i.i c.loop-i-test.true in
-        rw c.stretch-k.ensures (omega (arith, within.0))
+    rw c.stretch-k.ensures (omega (arith, within.0))
 
 pub slice_bounds-unpadded_steps-start : goal.slice_bounds-unpadded_steps-start
 slice_bounds-unpadded_steps-start c = let within = stretch_within (device c.loop-i.e c.loop-i.slots) c.loop-i.buffer c.args.samples.now c.loop-i.i c.loop-i-test.true in
-        rw c.stretch-k.ensures (omega (arith, within.0))
+    rw c.stretch-k.ensures (omega (arith, within.0))
 
 pub slice_bounds-unpadded_steps-end : goal.slice_bounds-unpadded_steps-end
 slice_bounds-unpadded_steps-end c = let within = stretch_within (device c.loop-i.e c.loop-i.slots) c.loop-i.buffer c.args.samples.now c.loop-i.i c.loop-i-test.true in
-        rw c.stretch-k.ensures (omega (arith, within.1))
+    rw c.stretch-k.ensures (omega (arith, within.1))
 
 pub unpadded_steps-e-requires : goal.unpadded_steps-e-requires
 unpadded_steps-e-requires c = let g = c.loop-i.invariant in
@@ -54,7 +54,7 @@ unpadded_steps-e-requires c = let g = c.loop-i.invariant in
 
 pub loop-i-smaller : goal.loop-i-smaller
 loop-i-smaller c = let within = stretch_within (device c.loop-i.e c.loop-i.slots) c.loop-i.buffer c.args.samples.now c.loop-i.i c.loop-i-test.true in
-        rw c.stretch-k.ensures (omega (arith, within.0, within.1))
+    rw c.stretch-k.ensures (omega (arith, within.0, within.1))
 
 pub loop-i-preserved : goal.loop-i-preserved
 loop-i-preserved c = let within = stretch_within (device c.loop-i.e c.loop-i.slots) c.loop-i.buffer c.args.samples.now c.loop-i.i c.loop-i-test.true in

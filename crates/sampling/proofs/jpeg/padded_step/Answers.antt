@@ -27,5 +27,5 @@ unfolding counted
 returns c = let a = c.args in
     let g = rw (c.count_sample-counted.ensures, c.apart-s.ensures) at c.granted-g.ensures in
     let word = rw (c.padded_sample.ensures, c.apart-s.ensures) at c.padded_word-c.ensures in
-        rw (c.note_landing.ensures, c.note_packing.ensures)
+    rw (c.note_landing.ensures, c.note_packing.ensures)
     (stepped_padded (device a.d a.slots.now) a.buffer.now a.landings.now a.words.now a.w c.requires.well_formed c.requires.cr_value.0 c.requires.cr_value.1 g word)

@@ -29,13 +29,13 @@ pub returns-in-Refused : goal.returns-in-Refused
 unfolding sample
 returns-in-Refused c = let a = c.args in
     let refused = refusal_by (device a.core a.slots.now) a.memory.now a.start (a.w ∷ []) c.malformed_core-bad.ensures c.refusal_of-outcome.ensures in
-        rw (refused ∙ ap outcome c.in-Refused.is, never_zero c.in-Refused.refusal)
+    rw (refused ∙ ap outcome c.in-Refused.is, never_zero c.in-Refused.refusal)
 
 pub returns-in-Accepted : goal.returns-in-Accepted
 returns-in-Accepted c = let a = c.args in
     let d = device a.core a.slots.now in
     let taken = refusal_by d a.memory.now a.start (a.w ∷ []) c.malformed_core-bad.ensures c.refusal_of-outcome.ensures in
-        rw (put_tail, c.in_memory-landing.ensures, c.noted_landing-landed.ensures, c.noted_packing-packing.ensures)
+    rw (put_tail, c.in_memory-landing.ensures, c.noted_landing-landed.ensures, c.noted_packing-packing.ensures)
     (accepted_sample d a.memory.now a.start a.w
     (taken ∙ ap outcome c.in-Accepted.is)
     (one_sample _ _ _ (rw tail_part at c.steps-after.ensures)))

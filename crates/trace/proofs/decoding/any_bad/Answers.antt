@@ -24,8 +24,8 @@ loop-i-preserved c = let f = c.args.file.now in
     let bad = c.bad_at.ensures ∙ ap bad_sample (sample_here f _ i (omega (arith, c.samples_start-from.ensures.value))) in
     let next = rw (samples_next f i (sample_count f) (omega (arith, c.loop-i-test.true, c.sample_count-count.ensures.value)), ← bad) at c.loop-i.invariant in
     elim c.if-bad_at.branch [
-      then-bad_at w ↦ rw w.any-is (rw (w.if-bad_at.true, or_true) at next)
-    | else-bad_at w ↦ rw w.any-is (rw w.if-bad_at.false at next)
+      | then-bad_at w ↦ rw w.any-is (rw (w.if-bad_at.true, or_true) at next)
+      | else-bad_at w ↦ rw w.any-is (rw w.if-bad_at.false at next)
     ]
 
 pub returns : goal.returns

@@ -1,5 +1,4 @@
 -- `trace::decoding::bad_among` meets its contract: a sample is bad exactly if the bits of those so far are, or one of those from i on is.
-use Prim.Native.Nat.{◌-◌}
 use lib.ListN.{drop_of_length-le}
 use mathlib.Core.Path.{refl, sym}
 use Rattle.bits.proofs.Booleans.{or_unit}

@@ -1,5 +1,4 @@
 -- `trace::decoding::decode_all` meets its contract: the samples so far stand at the front of the array.
-use Prim.Native.Nat.{◌-◌}
 use lib.Seq.{length-sets}
 use mathlib.Core.Path.{◌≡◌, refl}
 use native.Mathlib.Omega.{arith}

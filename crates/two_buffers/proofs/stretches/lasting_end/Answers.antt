@@ -10,9 +10,9 @@ returns-then-embedded c = rw (sym c.embedded.ensures ∙ c.if-embedded.true) c.d
 pub returns-then-goes_on : goal.returns-then-goes_on
 unfolding lasting_end
 returns-then-goes_on c = let on = rw (c.blanks.ensures, c.vsync_pin.ensures, c.vspol.ensures, c.is_open.ensures) at (sym c.goes_on.ensures ∙ c.if-goes_on.true) in
-        rw (sym c.embedded.ensures ∙ c.if-embedded.false, on) c.level_end.ensures
+    rw (sym c.embedded.ensures ∙ c.if-embedded.false, on) c.level_end.ensures
 
 pub returns : goal.returns
 unfolding lasting_end
 returns c = let off = rw (c.blanks.ensures, c.vsync_pin.ensures, c.vspol.ensures, c.is_open.ensures) at (sym c.goes_on.ensures ∙ c.if-goes_on.false) in
-        rw (sym c.embedded.ensures ∙ c.if-embedded.false, off)
+    rw (sym c.embedded.ensures ∙ c.if-embedded.false, off)

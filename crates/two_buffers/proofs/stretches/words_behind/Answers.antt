@@ -16,9 +16,9 @@ overflow_add-t-2 c = omega (arith, opening_fit _ _ _ c.opening_behind.ensures (o
 pub returns : goal.returns
 unfolding words_behind
 returns c = rw (
-      ← c.first_word-s.ensures,
-      ← c.tags_in.ensures,
-      ← c.tags_in-2.ensures,
-      ← c.opening_behind.ensures,
-    )
+  ← c.first_word-s.ensures,
+  ← c.tags_in.ensures,
+  ← c.tags_in-2.ensures,
+  ← c.opening_behind.ensures,
+)
     c.with_tags.ensures
