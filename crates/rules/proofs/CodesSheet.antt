@@ -48,8 +48,8 @@ FS = code 0xA1
 abbrev pub LS : List ℕ
 LS = code 0xB2
 
-abbrev pub Le : List ℕ
-Le = code 0xC3
+abbrev pub LE : List ℕ
+LE = code 0xC3
 
 abbrev pub FE : List ℕ
 FE = code 0xD4
@@ -92,7 +92,7 @@ unfoldable pub code_meanings : List Log
 code_meanings =
     -- 004, mode 2: four codes. A code that matches no delimiter does nothing: before a frame, in a line, between lines, after a frame
     mode_2 4 0x4031
-    (sends (code 0x77) 0 3 ++ sends FS 0 0 ++ sends (code 0x77) 0 0 ++ sends Le 0x10 1 ++ sends (code 0x77) 0x10 1 ++ sends LS 0x10 0 ++
+    (sends (code 0x77) 0 3 ++ sends FS 0 0 ++ sends (code 0x77) 0 0 ++ sends LE 0x10 1 ++ sends (code 0x77) 0x10 1 ++ sends LS 0x10 0 ++
     sends FE 0x19 3 ++ sends (code 0x77) 0x19 3 ++ sends FS 0x19 0) ∷
     -- 004, mode 1, SAV and EAV in pairs: line start 0x80 and line end 0x9D; the codes of blanking lines, 0xB6 and 0xAB, and 0xFF match no other and are frame ends.
     -- Enabled in mid frame: the frame begins with the first line start after a frame end
@@ -108,11 +108,11 @@ code_meanings =
     coded 4 0xD4C3B2FF 0xFFFFFFFF 0x4031 (sends (FE ++ code 0xFF) 0 3 ++ sends LS 0 0 ++ sends (code 0xFF) 0 0) ∷
     -- "FEC 0xFF makes just the codes that match no other a frame end", whatever its unmask
     coded 4 0xFFC3B2A1 0x00FFFFFF 0x4031
-    (sends FS 0 0 ++ sends Le 0x10 1 ++ sends LS 0x10 0 ++ sends (code 0x77) 0x19 3 ++ sends FS 0x19 0 ++ sends Le 0x19 1) ∷
+    (sends FS 0 0 ++ sends LE 0x10 1 ++ sends LS 0x10 0 ++ sends (code 0x77) 0x19 3 ++ sends FS 0x19 0 ++ sends LE 0x19 1) ∷
     coded 4 0xFFC3B2A1 0xFFFFFFFF 0x4031 (sends FS 0 0 ++ sends (code 0x77) 0x19 3 ++ sends FS 0x19 0 ++ a_write ICR 0x1F ▸ done ∷ sends (code 0xFF) 0x19 3) ∷
     -- LSC and LEC 0xFF are ordinary, also where FEC or FSC is 0xFF
-    coded 4 0xD4C3FFA1 0xFFFFFFFF 0x4031 (sends (FS ++ Le) 0x10 1 ++ sends LS 0x10 1 ++ sends (code 0xFF) 0x10 0) ∷
-    coded 4 0xFFC3FFA1 0xFFFFFFFF 0x4031 (sends (FS ++ Le) 0x10 1 ++ sends (code 0xFF) 0x10 0 ++ sends (code 0x77) 0x19 3) ∷
+    coded 4 0xD4C3FFA1 0xFFFFFFFF 0x4031 (sends (FS ++ LE) 0x10 1 ++ sends LS 0x10 1 ++ sends (code 0xFF) 0x10 0) ∷
+    coded 4 0xFFC3FFA1 0xFFFFFFFF 0x4031 (sends (FS ++ LE) 0x10 1 ++ sends (code 0xFF) 0x10 0 ++ sends (code 0x77) 0x19 3) ∷
     coded 4 0xFFFFB2A1 0xFFFFFFFF 0x4031 (sends FS 0 0 ++ sends (code 0xFF) 0x10 1) ∷
     coded 4 0xD4C3FFFF 0xFFFFFFFF 0x4031 (sends FE 0 3 ++ sends (code 0xFF) 0 0) ∷
     -- the manual's example, FS 0xA5 with unmask 0x10: bit 4 is compared alone, and is 0
@@ -125,17 +125,17 @@ code_meanings =
     (sends FS 0 0 ++ sends (code 0x81) 0 0 ++ sends (code 0xC9) 0x10 1 ++ sends (code 0x73 ++ code 0) 0x10 1 ++ sends (code 0x72) 0x10 0 ++
     sends (code 0x80) 0x19 3) ∷
     -- unmask 0 matches everything, and "frame end, frame start, line end, line start is the order": all four, with delimiters and at reset
-    coded 4 0xD4C3B2A1 0x00000000 0x4031 (sends (FS ++ LS ++ Le ++ FE ++ code 0x77) 0 3) ∷
+    coded 4 0xD4C3B2A1 0x00000000 0x4031 (sends (FS ++ LS ++ LE ++ FE ++ code 0x77) 0 3) ∷
     coded 4 0 0 0x4031 (sends (code 0 ++ code 0xFF ++ FS) 0 3) ∷
     -- frame start, line end and line start; line end and line start
-    coded 4 0xD4C3B2A1 0xFF000000 0x4031 (sends (code 0x77) 0 0 ++ sends FE 0x19 3 ++ sends LS 0x19 0 ++ sends Le 0x1D 3) ∷
+    coded 4 0xD4C3B2A1 0xFF000000 0x4031 (sends (code 0x77) 0 0 ++ sends FE 0x19 3 ++ sends LS 0x19 0 ++ sends LE 0x1D 3) ∷
     coded 4 0xD4C3B2A1 0xFF0000FF 0x4031 (sends FS 0 0 ++ sends LS 0x10 1 ++ sends LS 0x14 3) ∷
     -- frame end with each of the others; frame start with line end and with line start; line end with line start
     coded 4 0xA4C3B2A1 0xF0FFFFFF 0x4031 (sends FS 0 3) ∷
     coded 4 0xD4D3B2A1 0xF0FFFFFF 0x4031 (sends FS 0 0 ++ sends (code 0xD3) 0x19 3) ∷
-    coded 4 0xD4C3D2A1 0xF0FFFFFF 0x4031 (sends (FS ++ Le) 0x10 1 ++ sends (code 0xD2) 0x19 3) ∷
+    coded 4 0xD4C3D2A1 0xF0FFFFFF 0x4031 (sends (FS ++ LE) 0x10 1 ++ sends (code 0xD2) 0x19 3) ∷
     coded 4 0xD4A3B2A1 0xFFFFFFF0 0x4031 (sends (code 0xA3) 0 0 ++ sends (code 0xA3) 4 3) ∷
-    coded 4 0xD4C3A2A1 0xFFFFFFF0 0x4031 (sends (FS ++ Le) 0x10 1 ++ sends (code 0xA2) 0x14 3) ∷
+    coded 4 0xD4C3A2A1 0xFFFFFFF0 0x4031 (sends (FS ++ LE) 0x10 1 ++ sends (code 0xA2) 0x14 3) ∷
     coded 4 0xD4C3C2A1 0xFFF0FFFF 0x4031 (sends FS 0 0 ++ sends (code 0xC2) 0x10 1 ++ sends (code 0xC2) 0x14 3) ∷
     []
 
@@ -144,26 +144,26 @@ unfoldable pub coded_frames : List Log
 coded_frames =
     -- "none of its four bytes is captured"; "a frame lasts from its start code, which opens its first line": nothing is captured before it or after its end
     mode_2 4 0x4031
-    (sends (1 ∷ 2 ∷ 3 ∷ 4 ∷ []) 0 3 ++ sends (FS ++ 5 ∷ 6 ∷ 7 ∷ []) 0 0 ++ byte 8 (completed 0x08070605) ++ sends Le 0x10 5 ++
+    (sends (1 ∷ 2 ∷ 3 ∷ 4 ∷ []) 0 3 ++ sends (FS ++ 5 ∷ 6 ∷ 7 ∷ []) 0 0 ++ byte 8 (completed 0x08070605) ++ sends LE 0x10 5 ++
     sends FE 0x19 7 ++ sends (9 ∷ 0x0A ∷ 0x0B ∷ 0x0C ∷ []) 0x19 7 ++ lands_at 0 ∷
     the_memory ▸ holds (5 ∷ 6 ∷ 7 ∷ 8 ∷ 0xEE ∷ 0xEE ∷ 0xEE ∷ 0xEE ∷ []) ∷ the_counts ▸ counts 49 1 1 0 0 1 ∷ []) ∷
     -- "to its end code, which closes any": LINE rises where it closes a line, and not between lines
     mode_2 4 0x4031 (sends FS 0 0 ++ sends FE 0x19 3) ∷
-    mode_2 4 0x4031 (sends (FS ++ Le) 0x10 1 ++ a_write ICR 0x1F ▸ done ∷ sends FE 9 3) ∷
+    mode_2 4 0x4031 (sends (FS ++ LE) 0x10 1 ++ a_write ICR 0x1F ▸ done ∷ sends FE 9 3) ∷
     -- "pixels lie in lines": bytes between lines are none, and packing runs on across lines; the partial word of a frame is no part of the next
     mode_2 4 0x4031
-    (sends (FS ++ 1 ∷ 2 ∷ Le) 0x10 1 ++ sends (9 ∷ 9 ∷ 9 ∷ 9 ∷ []) 0x10 1 ++ sends (LS ++ 3 ∷ []) 0x10 0 ++ byte 4 (completed 0x04030201) ++
+    (sends (FS ++ 1 ∷ 2 ∷ LE) 0x10 1 ++ sends (9 ∷ 9 ∷ 9 ∷ 9 ∷ []) 0x10 1 ++ sends (LS ++ 3 ∷ []) 0x10 0 ++ byte 4 (completed 0x04030201) ++
     the_counts ▸ counts 40 1 0 0 1 0 ∷ sends (5 ∷ FE) 0x19 7 ++ sends (FS ++ 6 ∷ 7 ∷ 8 ∷ []) 0x19 4 ++ byte 9 (completed 0x09080706)) ∷
     -- "lines count from their codes, empty ones too": line 2 behind an empty line 1, and line 1 behind an empty line 0; in the next frame from 0 again
     windowed 0x20000 3 0x4035
-    (sends (FS ++ 1 ∷ 2 ∷ 3 ∷ 4 ∷ Le ++ LS ++ Le ++ LS) 0x10 0 ++ sends (5 ∷ 6 ∷ 7 ∷ []) 0x10 0 ++ byte 8 (completed 0x08070605) ++
-    sends Le 0x11 5 ++ sends FE 0x19 7) ∷
+    (sends (FS ++ 1 ∷ 2 ∷ 3 ∷ 4 ∷ LE ++ LS ++ LE ++ LS) 0x10 0 ++ sends (5 ∷ 6 ∷ 7 ∷ []) 0x10 0 ++ byte 8 (completed 0x08070605) ++
+    sends LE 0x11 5 ++ sends FE 0x19 7) ∷
     windowed 0x10000 3 0x4035
-    (sends (FS ++ Le ++ LS ++ 1 ∷ 2 ∷ 3 ∷ []) 0x10 0 ++ byte 4 (completed 0x04030201) ++ sends FE 0x19 7 ++
-    sends (FS ++ 5 ∷ 6 ∷ 7 ∷ 8 ∷ []) 0x19 4 ++ sends (Le ++ LS ++ 5 ∷ 6 ∷ 7 ∷ []) 0x19 4 ++ byte 8 (completed 0x08070605)) ∷
+    (sends (FS ++ LE ++ LS ++ 1 ∷ 2 ∷ 3 ∷ []) 0x10 0 ++ byte 4 (completed 0x04030201) ++ sends FE 0x19 7 ++
+    sends (FS ++ 5 ∷ 6 ∷ 7 ∷ 8 ∷ []) 0x19 4 ++ sends (LE ++ LS ++ 5 ∷ 6 ∷ 7 ∷ []) 0x19 4 ++ byte 8 (completed 0x08070605)) ∷
     -- columns count the data bytes of a line, from 0 in each: columns 1 and 2 of lines 0 and 1; bytes between lines count nowhere
     windowed 1 0x10001 0x4035
-    (sends (FS ++ 1 ∷ 2 ∷ 3 ∷ 4 ∷ []) 0 0 ++ sends (Le ++ 9 ∷ 9 ∷ LS ++ 5 ∷ 6 ∷ []) 0x10 0 ++ byte 7 (completed 0x07060302) ++
+    (sends (FS ++ 1 ∷ 2 ∷ 3 ∷ 4 ∷ []) 0 0 ++ sends (LE ++ 9 ∷ 9 ∷ LS ++ 5 ∷ 6 ∷ []) 0x10 0 ++ byte 7 (completed 0x07060302) ++
     sends (8 ∷ []) 0x10 4) ∷
     -- "8 bits only": the data bits above 7 are ignored, in codes and in data
     mode_2 4 0x4031
@@ -182,14 +182,14 @@ coded_frames =
     (a_run 0 (edges (0xFF ∷ 0 ∷ []) ++ 0x10055 ∷ 0x100FF ∷ 0x00066 ∷ 0x000FF ∷ 0x10000 ∷ 0x00000 ∷ 0x100A1 ∷ []) ▸ done ∷
     a_read SR ▸ reads 0 ∷ []) ∷
     -- "with CAPTURE 1": with CAPTURE 0 neither flag rises; the frame is open all the same, and not taken
-    mode_2 4 0x4030 (sends FS 0 0 ++ sends (1 ∷ 2 ∷ 3 ∷ 4 ∷ Le) 0 1 ++ sends LS 0 0 ++ sends FE 0 3 ++ the_counts ▸ counts 40 0 0 0 0 0 ∷ []) ∷
+    mode_2 4 0x4030 (sends FS 0 0 ++ sends (1 ∷ 2 ∷ 3 ∷ 4 ∷ LE) 0 1 ++ sends LS 0 0 ++ sends FE 0 3 ++ the_counts ▸ counts 40 0 0 0 0 0 ∷ []) ∷
     -- CAPTURE cleared in a taken frame: it runs to its end, and FRAME rises alone
     mode_2 4 0x4031
-    (sends (FS ++ 1 ∷ 2 ∷ []) 0 0 ++ a_write CR 0x4030 ▸ done ∷ sends Le 0 1 ++ sends (LS ++ 3 ∷ []) 0 0 ++ byte 4 (completed 0x04030201) ++
+    (sends (FS ++ 1 ∷ 2 ∷ []) 0 0 ++ a_write CR 0x4030 ▸ done ∷ sends LE 0 1 ++ sends (LS ++ 3 ∷ []) 0 0 ++ byte 4 (completed 0x04030201) ++
     sends FE 1 7) ∷
     -- CAPTURE set in a frame that began without it: VSYNC and LINE rise, FRAME does not; nothing is captured, a snapshot goes on, and the next frame is taken
     mode_2 4 0x4030
-    (sends FS 0 0 ++ a_write CR 0x4031 ▸ done ∷ sends (1 ∷ 2 ∷ 3 ∷ 4 ∷ Le) 0x10 1 ++ sends (LS ++ FE) 0x18 3 ++
+    (sends FS 0 0 ++ a_write CR 0x4031 ▸ done ∷ sends (1 ∷ 2 ∷ 3 ∷ 4 ∷ LE) 0x10 1 ++ sends (LS ++ FE) 0x18 3 ++
     the_counts ▸ counts 40 0 0 0 0 0 ∷ sends (FS ++ 5 ∷ 6 ∷ 7 ∷ []) 0x18 0 ++ byte 8 (completed 0x08070605)) ∷
     mode_2 4 0x4032
     (sends FS 0 0 ++ a_write CR 0x4033 ▸ done ∷ sends (1 ∷ 2 ∷ 3 ∷ 4 ∷ FE) 0x18 3 ++ a_read CR ▸ reads 0x4033 ∷
@@ -231,20 +231,20 @@ coded_frames =
     -- a snapshot: the flags rise before its CAPTURE is cleared, and the next frame raises none
     mode_2 4 0x4033
     (sends (FS ++ 1 ∷ []) 0 0 ++ sends FE 0x19 3 ++ a_read CR ▸ reads 0x4032 ∷ a_write ICR 0x1F ▸ done ∷
-    sends (FS ++ 1 ∷ 2 ∷ 3 ∷ 4 ∷ Le ++ FE) 0 3 ++ the_counts ▸ counts 50 0 0 0 0 0 ∷ []) ∷
+    sends (FS ++ 1 ∷ 2 ∷ 3 ∷ 4 ∷ LE ++ FE) 0 3 ++ the_counts ▸ counts 50 0 0 0 0 0 ∷ []) ∷
     -- W1: the line end of line VST + VLINE is the early moment, once in a frame, "even if nothing was captured"; a later line end or frame end does not raise it again
     windowed 0 3 0x4035
-    (sends (FS ++ 1 ∷ 2 ∷ 3 ∷ 4 ∷ []) 0 4 ++ sends Le 0x11 5 ++ a_write ICR 1 ▸ done ∷ sends (LS ++ 5 ∷ Le) 0x10 5 ++ sends FE 0x18 7 ++
-    sends (FS ++ Le) 0x19 5) ∷
-    windowed 0x10000 0 0x4035 (sends (FS ++ Le ++ LS) 0x10 0 ++ sends Le 0x11 1 ++ a_write ICR 0x1F ▸ done ∷ sends LS 0 0 ++ sends FE 0x18 3) ∷
+    (sends (FS ++ 1 ∷ 2 ∷ 3 ∷ 4 ∷ []) 0 4 ++ sends LE 0x11 5 ++ a_write ICR 1 ▸ done ∷ sends (LS ++ 5 ∷ LE) 0x10 5 ++ sends FE 0x18 7 ++
+    sends (FS ++ LE) 0x19 5) ∷
+    windowed 0x10000 0 0x4035 (sends (FS ++ LE ++ LS) 0x10 0 ++ sends LE 0x11 1 ++ a_write ICR 0x1F ▸ done ∷ sends LS 0 0 ++ sends FE 0x18 3) ∷
     -- a frame end code that closes that line is the frame end, and so is one before that line
     windowed 0 3 0x4035 (sends (FS ++ 1 ∷ []) 0 0 ++ sends FE 0x19 3) ∷
-    windowed 0x10000 0 0x4035 (sends (FS ++ Le) 0x10 1 ++ sends FE 0x19 3) ∷
+    windowed 0x10000 0 0x4035 (sends (FS ++ LE) 0x10 1 ++ sends FE 0x19 3) ∷
     -- with CROP 0 not before frame end; not in an untaken frame; with CAPTURE cleared FRAME alone; a snapshot keeps its CAPTURE to the frame end
-    windowed 0 0 0x4031 (sends (FS ++ Le) 0x10 1 ++ sends FE 0x19 3) ∷
-    windowed 0 0 0x4135 (sends (FS ++ Le ++ FE) 0x19 3 ++ a_write ICR 0x1F ▸ done ∷ sends (FS ++ Le) 0x10 1 ++ sends FE 0x18 3) ∷
-    windowed 0 0 0x4035 (sends FS 0 0 ++ a_write CR 0x4034 ▸ done ∷ sends Le 1 1 ++ sends FE 1 3) ∷
-    windowed 0 0 0x4037 (sends (FS ++ Le) 0x11 1 ++ a_read CR ▸ reads 0x4037 ∷ sends FE 0x19 3 ++ a_read CR ▸ reads 0x4036 ∷ []) ∷
+    windowed 0 0 0x4031 (sends (FS ++ LE) 0x10 1 ++ sends FE 0x19 3) ∷
+    windowed 0 0 0x4135 (sends (FS ++ LE ++ FE) 0x19 3 ++ a_write ICR 0x1F ▸ done ∷ sends (FS ++ LE) 0x10 1 ++ sends FE 0x18 3) ∷
+    windowed 0 0 0x4035 (sends FS 0 0 ++ a_write CR 0x4034 ▸ done ∷ sends LE 1 1 ++ sends FE 1 3) ∷
+    windowed 0 0 0x4037 (sends (FS ++ LE) 0x11 1 ++ a_read CR ▸ reads 0x4037 ∷ sends FE 0x19 3 ++ a_read CR ▸ reads 0x4036 ∷ []) ∷
     []
 
 -- ERR.
@@ -263,15 +263,15 @@ code_errors =
     mode_2 4 0x4031
     (sends (FS ++ 1 ∷ []) 0 0 ++ sends FS 4 3 ++ sends (2 ∷ 3 ∷ 4 ∷ 5 ∷ []) 4 3 ++ the_counts ▸ counts 26 0 0 0 0 0 ∷ sends FS 4 0 ++
     sends (6 ∷ 7 ∷ 8 ∷ []) 4 0 ++ byte 9 (completed 0x09080706)) ∷
-    mode_2 4 0x4031 (sends (FS ++ Le) 0x10 1 ++ sends FS 0x14 3) ∷
+    mode_2 4 0x4031 (sends (FS ++ LE) 0x10 1 ++ sends FS 0x14 3) ∷
     mode_2 4 0x4030 (sends (FS ++ FS) 4 3 ++ sends FS 4 0) ∷
     mode_2 4 0x4131 (sends (FS ++ 1 ∷ 2 ∷ 3 ∷ 4 ∷ FE) 0x19 7 ++ a_write ICR 0x1F ▸ done ∷ sends (FS ++ FS) 4 3 ++ the_counts ▸ counts 40 1 0 1 0 0 ∷ []) ∷
     -- "a line end outside a line": between lines, taken and not; between frames, where the held word is discarded too
-    mode_2 4 0x4031 (sends (FS ++ Le) 0x10 1 ++ sends Le 0x14 3) ∷
-    mode_2 4 0x4030 (sends (FS ++ Le) 0 1 ++ sends Le 4 3) ∷
-    mode_2 4 0x4131 (sends (FS ++ FE) 0x19 3 ++ a_write ICR 0x1F ▸ done ∷ sends (FS ++ Le) 0x10 1 ++ sends Le 0x14 3) ∷
-    mode_2 4 0x4031 (sends (FS ++ 1 ∷ 2 ∷ 3 ∷ 4 ∷ FE) 0x19 7 ++ sends Le 0x1D 3 ++ the_counts ▸ counts 32 1 0 1 0 0 ∷ []) ∷
-    mode_2 4 0x4030 (sends (FS ++ FE) 0 3 ++ sends Le 4 3) ∷
+    mode_2 4 0x4031 (sends (FS ++ LE) 0x10 1 ++ sends LE 0x14 3) ∷
+    mode_2 4 0x4030 (sends (FS ++ LE) 0 1 ++ sends LE 4 3) ∷
+    mode_2 4 0x4131 (sends (FS ++ FE) 0x19 3 ++ a_write ICR 0x1F ▸ done ∷ sends (FS ++ LE) 0x10 1 ++ sends LE 0x14 3) ∷
+    mode_2 4 0x4031 (sends (FS ++ 1 ∷ 2 ∷ 3 ∷ 4 ∷ FE) 0x19 7 ++ sends LE 0x1D 3 ++ the_counts ▸ counts 32 1 0 1 0 0 ∷ []) ∷
+    mode_2 4 0x4030 (sends (FS ++ FE) 0 3 ++ sends LE 4 3) ∷
     -- "a line start outside a frame", where FSC is not 0xFF
     mode_2 4 0x4031 (sends (FS ++ 1 ∷ 2 ∷ 3 ∷ 4 ∷ FE) 0x19 7 ++ sends LS 0x1D 3 ++ the_counts ▸ counts 32 1 0 1 0 0 ∷ []) ∷
     mode_2 4 0x4030 (sends (FS ++ FE) 0 3 ++ sends LS 4 3) ∷
@@ -304,7 +304,7 @@ code_errors =
     sends FE 0x1D 7 ++ a_read CR ▸ reads 0x4032 ∷ []) ∷
     mode_2 4 0x4131 (sends (FS ++ FS) 4 3 ++ sends (FS ++ 1 ∷ 2 ∷ 3 ∷ 4 ∷ FE) 0x1C 3 ++ sends (FS ++ 5 ∷ 6 ∷ 7 ∷ []) 0x1C 0 ++ byte 8 (completed 0x08070605)) ∷
     -- with CROP 1 an error before the window has ended leaves no FRAME
-    windowed 0 0 0x4035 (sends (FS ++ 1 ∷ LS) 4 3 ++ sends (Le ++ FE) 4 3) ∷
+    windowed 0 0 0x4035 (sends (FS ++ 1 ∷ LS) 4 3 ++ sends (LE ++ FE) 4 3) ∷
     -- ERR is bit 2 of RIS and MIS, moves the interrupt line, and is cleared by ICR
     mode_2 4 0x4031
     (a_write IER 4 ▸ done ∷ sends FS 0 0 ++ the_line ▸ line false ∷ sends FS 4 3 ++ a_read 0x10 ▸ reads 4 ∷ the_line ▸ line true ∷
@@ -316,27 +316,27 @@ unfoldable pub only_frame_starts : List Log
 only_frame_starts =
     -- "after enabling ... only a frame start counts": no other code has an effect, and enabling raises no flag
     mode_2 4 0x4031
-    (sends (0x41 ∷ []) 0 3 ++ sends LS 0 3 ++ sends Le 0 3 ++ sends FE 0 3 ++ sends (LS ++ Le ++ Le) 0 3 ++
+    (sends (0x41 ∷ []) 0 3 ++ sends LS 0 3 ++ sends LE 0 3 ++ sends FE 0 3 ++ sends (LS ++ LE ++ LE) 0 3 ++
     sends (1 ∷ 2 ∷ 3 ∷ 4 ∷ []) 0 3 ++ the_counts ▸ counts 58 0 0 0 0 0 ∷ sends FS 0 0) ∷
     -- after ERR; after an overrun, of which CAPTURE stays with CM 0
     mode_2 4 0x4031
-    (sends (FS ++ FS) 4 3 ++ a_write ICR 4 ▸ done ∷ sends LS 0 3 ++ sends Le 0 3 ++ sends FE 0 3 ++ sends LS 0 3 ++ sends Le 0 3 ++
+    (sends (FS ++ FS) 4 3 ++ a_write ICR 4 ▸ done ∷ sends LS 0 3 ++ sends LE 0 3 ++ sends FE 0 3 ++ sends LS 0 3 ++ sends LE 0 3 ++
     sends FS 0 0) ∷
     mode_2 1 0x4031
     (sends (FS ++ 1 ∷ 2 ∷ 3 ∷ 4 ∷ 5 ∷ 6 ∷ 7 ∷ []) 0 4 ++ byte 8 lost ++ shows 2 3 ++ a_read CR ▸ reads 0x4031 ∷
-    the_counts ▸ counts 24 2 0 2 0 0 ∷ sends (9 ∷ Le) 2 3 ++ sends LS 2 3 ++ sends FE 2 3 ++ sends Le 2 3 ++ sends LS 2 3 ++ sends FS 2 0) ∷
+    the_counts ▸ counts 24 2 0 2 0 0 ∷ sends (9 ∷ LE) 2 3 ++ sends LS 2 3 ++ sends FE 2 3 ++ sends LE 2 3 ++ sends LS 2 3 ++ sends FS 2 0) ∷
     -- after ERR between lines, and between frames, also where FSC is 0xFF
-    mode_2 4 0x4031 (sends (FS ++ Le ++ Le) 0x14 3 ++ a_write ICR 0x1F ▸ done ∷ sends Le 0 3 ++ sends LS 0 3 ++ sends FE 0 3 ++ sends FS 0 0) ∷
-    mode_2 4 0x4031 (sends (FS ++ FE ++ Le) 0x1D 3 ++ a_write ICR 0x1F ▸ done ∷ sends Le 0 3 ++ sends LS 0 3 ++ sends FE 0 3 ++ sends LS 0 3 ++ sends FS 0 0) ∷
-    mode_2 4 0x4031 (sends (FS ++ FE ++ LS) 0x1D 3 ++ a_write ICR 0x1F ▸ done ∷ sends LS 0 3 ++ sends Le 0 3 ++ sends FS 0 0) ∷
+    mode_2 4 0x4031 (sends (FS ++ LE ++ LE) 0x14 3 ++ a_write ICR 0x1F ▸ done ∷ sends LE 0 3 ++ sends LS 0 3 ++ sends FE 0 3 ++ sends FS 0 0) ∷
+    mode_2 4 0x4031 (sends (FS ++ FE ++ LE) 0x1D 3 ++ a_write ICR 0x1F ▸ done ∷ sends LE 0 3 ++ sends LS 0 3 ++ sends FE 0 3 ++ sends LS 0 3 ++ sends FS 0 0) ∷
+    mode_2 4 0x4031 (sends (FS ++ FE ++ LS) 0x1D 3 ++ a_write ICR 0x1F ▸ done ∷ sends LS 0 3 ++ sends LE 0 3 ++ sends FS 0 0) ∷
     mode_1 4 0x4031
     (sends (code 0xB6 ++ code 0x9D) 4 3 ++ a_write ICR 0x1F ▸ done ∷ sends (code 0x80) 0 3 ++ sends (code 0x9D) 0 3 ++
     sends (code 0xB6) 0 3 ++ sends (code 0x80) 0 0) ∷
     -- after enabling again, in a frame and between frames
-    mode_2 4 0x4031 (sends FS 0 0 ++ a_write CR 0x30 ▸ done ∷ a_write CR 0x4031 ▸ done ∷ sends Le 0 3 ++ sends LS 0 3 ++ sends FE 0 3 ++ sends FS 0 0) ∷
+    mode_2 4 0x4031 (sends FS 0 0 ++ a_write CR 0x30 ▸ done ∷ a_write CR 0x4031 ▸ done ∷ sends LE 0 3 ++ sends LS 0 3 ++ sends FE 0 3 ++ sends FS 0 0) ∷
     mode_2 4 0x4031
     (sends (FS ++ FE) 0x19 3 ++ a_write CR 0x30 ▸ done ∷ a_write CR 0x4031 ▸ done ∷ a_write ICR 0x1F ▸ done ∷ sends LS 0 3 ++
-    sends Le 0 3 ++ sends FS 0 0) ∷
+    sends LE 0 3 ++ sends FS 0 0) ∷
     -- "or a frame end if FSC is 0xFF": after enabling, ERR and an overrun; it raises no flag, and after it order is checked again
     mode_1 4 0x4031
     (sends (0x41 ∷ []) 0 3 ++ sends (code 0x80) 0 3 ++ sends (code 0x9D) 0 3 ++ sends (code 0xB6) 0 3 ++ sends (code 0x80) 0 0 ++
@@ -348,10 +348,10 @@ only_frame_starts =
     (sends (code 0xB6) 0 3 ++ a_write CR 0x30 ▸ done ∷ a_write CR 0x4031 ▸ done ∷ sends (code 0x80 ++ code 0x9D) 0 3 ++
     sends (code 0xB6) 0 3 ++ sends (code 0x9D) 4 3) ∷
     -- where FSC is not 0xFF a frame end does not count: order is not checked after it
-    mode_2 4 0x4031 (sends (FE ++ Le ++ LS) 0 3 ++ sends FS 0 0) ∷
+    mode_2 4 0x4031 (sends (FE ++ LE ++ LS) 0 3 ++ sends FS 0 0) ∷
     -- no FRAME in a frame that overran, nor VSYNC or LINE; a snapshot lost in an overrun has CAPTURE 0, and no frame is taken after it
     mode_2 1 0x4033
-    (sends (FS ++ 1 ∷ 2 ∷ 3 ∷ 4 ∷ 5 ∷ 6 ∷ 7 ∷ []) 0 4 ++ byte 8 lost ++ a_read CR ▸ reads 0x4032 ∷ sends (Le ++ FE) 2 3 ++
+    (sends (FS ++ 1 ∷ 2 ∷ 3 ∷ 4 ∷ 5 ∷ 6 ∷ 7 ∷ []) 0 4 ++ byte 8 lost ++ a_read CR ▸ reads 0x4032 ∷ sends (LE ++ FE) 2 3 ++
     sends (FS ++ 1 ∷ 2 ∷ 3 ∷ 4 ∷ FE) 2 3 ++ the_counts ▸ counts 64 2 0 2 0 0 ∷ []) ∷
     []
 
@@ -379,12 +379,12 @@ releases =
     (sends (FS ++ 0xFF ∷ 5 ∷ 0xFF ∷ 0 ∷ []) 0 0 ++ byte 6 (completed 0x0600FF05) ++ sends (7 ∷ 8 ∷ 9 ∷ 0x0A ∷ []) 0 4 ++
     the_counts ▸ counts 26 1 0 0 1 0 ∷ []) ∷
     windowed 1 3 0x4035 (sends (FS ++ 0xFF ∷ 0xFF ∷ 0xFF ∷ 0xFF ∷ []) 0 0 ++ byte 1 (completed 0x01FFFFFF)) ∷
-    windowed 0 3 0x4035 (sends (FS ++ 1 ∷ 2 ∷ 0xFF ∷ 0 ∷ []) 0 0 ++ byte 9 (completed 0x00FF0201) ++ sends Le 0x11 5) ∷
+    windowed 0 3 0x4035 (sends (FS ++ 1 ∷ 2 ∷ 0xFF ∷ 0 ∷ []) 0 0 ++ byte 9 (completed 0x00FF0201) ++ sends LE 0x11 5) ∷
     windowed 1 3 0x4035 (sends (FS ++ 1 ∷ 2 ∷ code 0x77 ++ 3 ∷ 4 ∷ []) 0 0 ++ byte 5 (completed 0x05040302)) ∷
     windowed 2 3 0x4035 (sends (FS ++ 0xFF ∷ 0 ∷ 0xFF ∷ 0 ∷ []) 0 0 ++ byte 5 nothing ++ byte 6 (completed 0x060500FF)) ∷
     -- released between lines they are no pixels, nor outside a frame
     mode_2 4 0x4031
-    (sends (0xFF ∷ 5 ∷ 0xFF ∷ 0 ∷ 6 ∷ FS ++ 1 ∷ 2 ∷ 3 ∷ Le) 0x10 1 ++ sends (0xFF ∷ 5 ∷ 0xFF ∷ 0 ∷ 6 ∷ []) 0x10 1 ++ sends LS 0x10 0 ++
+    (sends (0xFF ∷ 5 ∷ 0xFF ∷ 0 ∷ 6 ∷ FS ++ 1 ∷ 2 ∷ 3 ∷ LE) 0x10 1 ++ sends (0xFF ∷ 5 ∷ 0xFF ∷ 0 ∷ 6 ∷ []) 0x10 1 ++ sends LS 0x10 0 ++
     byte 4 (completed 0x04030201)) ∷
     -- an overrun at the first of two, and of three: those after it find no frame, and the next frame begins with a word of its own
     mode_2 1 0x4031
@@ -559,11 +559,11 @@ states =
     -- "with CAPTURE 0 it is not taken or counted"
     leaves (after_bytes 4 0x4130 (FS ++ 5 ∷ 0xFF ∷ 0 ∷ [])) (capture_is 0x4130 0 (place false 1 3) false false 0 0 0 Two) ∷
     -- between lines, after an empty line: bytes that wait there are in no line
-    leaves (after_bytes 4 0x4131 (FS ++ 5 ∷ Le ++ LS ++ Le ++ 7 ∷ 0xFF ∷ 0 ∷ 0 ∷ [])) (capture_is 0x4131 0x10 (place true 2 0) true false 1 1 5 Three) ∷
+    leaves (after_bytes 4 0x4131 (FS ++ 5 ∷ LE ++ LS ++ LE ++ 7 ∷ 0xFF ∷ 0 ∷ 0 ∷ [])) (capture_is 0x4131 0x10 (place true 2 0) true false 1 1 5 Three) ∷
     -- the bytes of a code have no column
     leaves (after_bytes 4 0x4131 (FS ++ 5 ∷ 6 ∷ code 0x77 ++ 7 ∷ [])) (capture_is 0x4131 0 (place true 1 3) false false 1 3 0x070605 Zero) ∷
     -- nor those of one between lines
-    leaves (after_bytes 4 0x4131 (FS ++ 5 ∷ 6 ∷ 7 ∷ 8 ∷ 9 ∷ Le ++ code 0x77)) (capture_is 0x4131 0x10 (place true 1 5) true false 1 1 9 Zero) ∷
+    leaves (after_bytes 4 0x4131 (FS ++ 5 ∷ 6 ∷ 7 ∷ 8 ∷ 9 ∷ LE ++ code 0x77)) (capture_is 0x4131 0x10 (place true 1 5) true false 1 1 9 Zero) ∷
     -- after a frame end, and after ERR
     leaves (after_bytes 4 0x4131 (FS ++ 5 ∷ FE)) (capture_is 0x4131 0x19 Closed true true 1 0 0 Zero) ∷
     leaves (after_bytes 4 0x4131 (FS ++ 5 ∷ FS)) (capture_is 0x4131 4 Closed false false 1 0 0 Zero) ∷
