@@ -6,7 +6,6 @@
 page=docs/BENCH.md
 
 need_library
-need_printer
 make -s -B -C examples CC='gcc -Werror' || fail "make -C examples"
 
 # A block of the page that begins with a line of the language's name alone: ```c or ```make.
@@ -42,9 +41,8 @@ commands() {
     while IFS= read -r line; do
         case $line in
         '$ (cd crates/frame_printer && rt run < stdin > /dev/null)')
-            # The command by which need_printer makes it, where it has to.
             echo "$line" >>"$name.printed"
-            need_printer
+            bash -c "${line#\$ }" >"$out/frame_printer.log" 2>&1 || fail "${line#\$ } ($out/frame_printer.log)"
             ;;
         '$ cmp -l samples/'* | '$ crates/frame_printer/out/frame_printer < samples/'*)
             echo "$line" >>"$name.printed"
