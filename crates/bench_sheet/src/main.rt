@@ -1,107 +1,58 @@
-// The bench sheet, run: each call's answer and what the device and memory hold after it are printed, and compared with the stored output.
+// The bench sheet, run: each call's answer and what the device and memory hold after it are printed, and compared with the stored output. A write that fails is passed over:
+// the comparison shows what is missing.
 #![tactic(auto)]
 
-use device::Reading;
-use numbers::four;
-use refusals::Outcome;
+use log_text::Answer;
+use numbers::number;
 use registers::Register;
 use rules::Device;
 
-// A write that fails is passed over: the comparison with the stored output shows what is missing.
-fn text(rt: &impl Print, t: &[u8]) {
-    let _ = rt.write_all(t);
-}
-
-fn hex(rt: &impl Print, n: u32, digits: usize) {
-    let _ = print!(rt; "{n:0digits$x}");
-}
-
-fn decimal(rt: &impl Print, n: u32) {
-    let _ = print!(rt; "{n}");
-}
-
-// What a call that changes the device answers.
-fn answer(rt: &impl Print, outcome: Outcome) {
-    match outcome {
-        Outcome::Accepted => text(rt, b": accepted\n"),
-        Outcome::Refused(refusal) => {
-            text(rt, b": refused ");
-            decimal(rt, refusal.number());
-            text(rt, b"\n");
-        }
-    }
-}
+const TRACE_T: [u32; 8] = [
+    0x0C000, 0x1C000, 0x00AAB, 0x10AAB, 0x0091B, 0x1091B, 0x2C000, 0x1C000,
+];
 
 // A register write: what it answers is printed.
 fn write(rt: &impl Print, d: Device, offset: u32, value: u32) -> Device {
-    let w = device::write(d, offset, value);
-    let outcome = w.outcome;
-    text(rt, b"write ");
-    hex(rt, offset, 2);
-    text(rt, b" ");
-    hex(rt, value, 4);
-    answer(rt, outcome);
-    w.device
+    let written = device::write(d, offset, value);
+    let _ = println!(rt; "write {offset:02x} {value:04x}: {}", Answer(written));
+    written.unwrap_or(d)
 }
 
 // A register read: what it answers is printed.
 fn read(rt: &impl Print, d: Device, offset: u32) {
-    let reading = device::read(d, offset);
-    text(rt, b"read ");
-    hex(rt, offset, 2);
-    match reading {
-        Reading::Value(value) => {
-            text(rt, b": ");
-            hex(rt, value, 4);
-            text(rt, b"\n");
-        }
-        Reading::Refused(refusal) => {
-            text(rt, b": refused ");
-            decimal(rt, refusal.number());
-            text(rt, b"\n");
-        }
-    }
+    let _ = match device::read(d, offset) {
+        Ok(value) => println!(rt; "read {offset:02x}: {value:04x}"),
+        Err(refusal) => println!(rt; "read {offset:02x}: refused {}", refusal.number()),
+    };
 }
 
 // A run over 8 bytes of memory, all 0 before it: its answer, the counts, CR, RIS and SR, and the two words of the memory.
 fn run(rt: &impl Print, d: Device, start: usize, samples: &[u32]) -> Device {
     let mut memory = [0u8; 8];
-    let r = device::run(d, &mut memory, start, samples);
-    let outcome = r.outcome;
-    let e = r.device;
-    let output = e.core.output;
-    let counts = output.counts;
-    text(rt, b"run from byte ");
-    let _ = print!(rt; "{start}");
-    answer(rt, outcome);
-    text(rt, b"  samples ");
-    decimal(rt, counts.samples);
-    text(rt, b", landed ");
-    decimal(rt, counts.landed);
-    text(rt, b", held ");
-    decimal(rt, output.held);
-    text(rt, b", discarded ");
-    decimal(rt, counts.discarded);
-    text(rt, b", memory ");
-    hex(rt, four(&memory, 0), 8);
-    text(rt, b" ");
-    hex(rt, four(&memory, 4), 8);
-    text(rt, b"\n  ");
-    read(rt, e, Register::CR);
-    text(rt, b"  ");
-    read(rt, e, Register::RIS);
-    text(rt, b"  ");
-    read(rt, e, Register::SR);
-    e
+    let ran = device::run(d, &mut memory, start, samples);
+    let _ = println!(rt; "run from byte {start}: {}", Answer(ran));
+    let after = ran.unwrap_or(d);
+    let output = after.core.output;
+    let _ = println!(rt;
+        "  samples {}, landed {}, held {}, discarded {}, memory {:08x} {:08x}",
+        output.counts.samples,
+        output.counts.landed,
+        output.held,
+        output.counts.discarded,
+        number::<4>(&memory, 0),
+        number::<4>(&memory, 4),
+    );
+    for register in [Register::CR, Register::RIS, Register::SR] {
+        let _ = print!(rt; "  ");
+        read(rt, after, register);
+    }
+    after
 }
 
 // Trace T from a start byte, with CR written before it.
 fn trace_t(rt: &impl Print, cr: u32, start: usize) -> Device {
-    let t = [
-        0x0C000, 0x1C000, 0x00AAB, 0x10AAB, 0x0091B, 0x1091B, 0x2C000, 0x1C000,
-    ];
     let d = write(rt, device::fresh(), Register::CR, cr);
-    run(rt, d, start, &t)
+    run(rt, d, start, &TRACE_T)
 }
 
 // One blank edge and nine pixels, 1 to 9, without a grant.
@@ -115,10 +66,7 @@ fn nine_pixels(rt: &impl Print) -> Device {
 }
 
 fn windows(rt: &impl Print) {
-    text(
-        rt,
-        b"A window of two pixels from column 1 holds 2331 and 2732:\n",
-    );
+    let _ = println!(rt; "A window of two pixels from column 1 holds 2331 and 2732:");
     let line = [
         0x0C000, 0x1C000, 0x00AAB, 0x10AAB, 0x0091B, 0x1091B, 0x00AAC, 0x10AAC, 0x00AAD, 0x30AAD,
     ];
@@ -129,64 +77,52 @@ fn windows(rt: &impl Print) {
 }
 
 fn registers(rt: &impl Print) {
-    text(
-        rt,
-        b"CR write 0x8 is accepted (W4), and 0x10 (W6); 0x18 is refused 5, 0x1008 is refused 4:\n",
+    let _ = println!(rt;
+        "CR write 0x8 is accepted (W4), and 0x10 (W6); 0x18 is refused 5, 0x1008 is refused 4:"
     );
     let d = write(rt, device::fresh(), Register::CR, 0x8);
     let d = write(rt, d, Register::CR, 0x10);
     let d = write(rt, d, Register::CR, 0x18);
     let d = write(rt, d, Register::CR, 0x1008);
-    text(rt, b"Enabled, CWSTRT write 0 is refused 6:\n");
+    let _ = println!(rt; "Enabled, CWSTRT write 0 is refused 6:");
     let d = write(rt, d, Register::CR, 0x48E3);
     let d = write(rt, d, Register::CWSTRT, 0);
-    text(rt, b"Sample 0x40000 is refused 7, 0x3FFFF accepted:\n");
-    let bad = [0x40000];
-    let good = [0x3FFFF];
-    let d = run(rt, d, 0, &bad);
-    run(rt, d, 0, &good);
-    text(
-        rt,
-        b"A fresh device gives SR 3; no register, and access against its kind:\n",
-    );
+    let _ = println!(rt; "Sample 0x40000 is refused 7, 0x3FFFF accepted:");
+    let d = run(rt, d, 0, &[0x40000]);
+    run(rt, d, 0, &[0x3FFFF]);
+    let _ = println!(rt; "A fresh device gives SR 3; no register, and access against its kind:");
     let d = device::fresh();
     read(rt, d, Register::SR);
     read(rt, d, 0x28);
     read(rt, d, Register::ICR);
     let d = write(rt, d, Register::SR, 0);
-    text(rt, b"A malformed device is refused 1:\n");
+    let _ = println!(rt; "A malformed device is refused 1:");
     let mut m = d;
     m.core.capture.registers.ier = 32;
     read(rt, m, Register::CR);
 }
 
 fn main(rt: HostRuntime) {
-    text(&rt, b"Trace T at 12, 10 and 8 bits:\n");
+    let _ = println!(rt; "Trace T at 12, 10 and 8 bits:");
     let d = trace_t(&rt, 0x48E3, 0);
     trace_t(&rt, 0x44E3, 0);
     trace_t(&rt, 0x40E3, 0);
-    text(&rt, b"RIS 0x19, ICR 1 leaves RIS 0x18:\n");
+    let _ = println!(rt; "RIS 0x19, ICR 1 leaves RIS 0x18:");
     let d = write(&rt, d, Register::ICR, 1);
     read(&rt, d, Register::RIS);
-    text(
-        &rt,
-        b"Nine pixels without a grant; a tenth; a tenth with a grant in its working sample:\n",
+    let _ = println!(rt;
+        "Nine pixels without a grant; a tenth; a tenth with a grant in its working sample:"
     );
     let d = nine_pixels(&rt);
-    let tenth = [0x0000A, 0x1000A];
-    let granted = [0x0000A, 0x3000A];
-    run(&rt, d, 0, &tenth);
-    run(&rt, d, 0, &granted);
+    run(&rt, d, 0, &[0x0000A, 0x1000A]);
+    run(&rt, d, 0, &[0x0000A, 0x3000A]);
     windows(&rt);
     registers(&rt);
-    text(
-        &rt,
-        b"Memory of 8 bytes: start 4 has room for one word, 5 and 8 for none, 9 is refused 9. An empty trace changes nothing:\n",
+    let _ = println!(rt;
+        "Memory of 8 bytes: start 4 has room for one word, 5 and 8 for none, 9 is refused 9. An empty trace changes nothing:"
     );
-    trace_t(&rt, 0x48E3, 4);
-    trace_t(&rt, 0x48E3, 5);
-    trace_t(&rt, 0x48E3, 8);
-    trace_t(&rt, 0x48E3, 9);
-    let none = [0u32; 0];
-    run(&rt, device::fresh(), 0, &none);
+    for start in [4, 5, 8, 9] {
+        trace_t(&rt, 0x48E3, start);
+    }
+    run(&rt, device::fresh(), 0, &[]);
 }

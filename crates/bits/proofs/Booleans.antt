@@ -2,8 +2,6 @@
 use mathlib.Core.Bool.{Bool, true, false, cond, not, ◌&&◌, ◌||◌, beq, true≢false, false≢true}
 use mathlib.Core.List.{List, [], ◌∷◌}
 use mathlib.Core.Path.{◌≡◌, refl, sym, ◌∙◌}
-use Prim.Native.Nat.{ℕ, ◌≤◌, zero-le}
-use native.Mathlib.Nat.{le_refl}
 use Rattle.bits.specs.Tests.{one_holds}
 
 pub or_false : (a b : Bool) → a || b ≡ false → (a ≡ false) × (b ≡ false)
@@ -83,7 +81,3 @@ none (t ∷ ts) e = let (h, rest) = or_false t (one_holds ts) e in (h, none ts r
 pub none_any : (ts : List Bool) → None ts → one_holds ts ≡ false
 none_any [] n = refl
 none_any (t ∷ ts) n = both_false t (one_holds ts) n.0 (none_any ts n.1)
-
-pub cond_le : (b : Bool) (n : ℕ) → cond b n 0 ≤ n
-cond_le true n = le_refl n
-cond_le false n = zero-le

@@ -1,3 +1,4 @@
 pub mod Booleans
 pub mod Ranges
 pub mod Raised
+pub mod Words

@@ -1,7 +1,7 @@
 -- The part that handing back names is there, and what it is, by the answer. Assumes nothing.
 use mathlib.Core.Bool.{Bool, true, false, cond, not, ◌||◌}
 use mathlib.Core.List.{[], ◌∷◌}
-use mathlib.Core.Option.{Option, none, some}
+use Rattle.std.specs.Prelude.{Option, None, Some}
 use mathlib.Core.Path.{◌≡◌, refl}
 use Prim.Native.Nat.{ℕ, ◌-◌, ◌*◌, ◌≤◌}
 use native.Mathlib.Omega.{arith}
@@ -20,7 +20,8 @@ use Rattle.rules.specs.declared.Device.{Device}
 use Rattle.board_rules.specs.declared.Board.{Board}
 use Rattle.board_rules.specs.State.{is_two, kept_of, malformed}
 use Rattle.board_rules.specs.BoardRuns.{Both, lent, turns_of}
-use Rattle.board_rules.specs.HandingBack.{too_short, frame_in, spans, span_of, beyond_span, handing_refusal, handed_from, handed_latest, latest_frame, hand_back}
+use Rattle.board_rules.specs.HandingBack.{spans, span_of, beyond_span, handing_refusal, handed_from, handed_latest, latest_frame, hand_back}
+use Rattle.board_rules.specs.declared.Handed.TheVariants.{TooShort as too_short, FrameIn as frame_in}
 use Rattle.board.specs.Answers.{Named}
 
 -- Of an accepted call each start is within its memory.
@@ -56,8 +57,8 @@ from_there B n l h = go (ltb (length l.b.memory - l.b.start) n) refl
 latest_there : (o : Option Buffer) (d : Device) (t : Turns) (l : Both) → ((u : Buffer) → (lent u l).start ≤ length (lent u l).memory)
     → Named (answered (handed_latest o d t (spans l))) l
 unfolding handed_latest Named
-latest_there none d t l h = tt
-latest_there (some u) d t l h = from_there u (4 * place_in u (kept_of d t)) l (h u)
+latest_there None d t l h = tt
+latest_there (Some u) d t l h = from_there u (4 * place_in u (kept_of d t)) l (h u)
 
 pub named : (b : Board) (l : Both) → Named (hand_back b l) l
 unfolding latest_frame Named

@@ -1,7 +1,7 @@
 -- A call over one memory by the mode: in mode one it is the device's, in mode two it is refused. Assumes nothing.
 use mathlib.Core.Bool.{Bool, true, false, cond, ◌||◌}
 use mathlib.Core.List.{List, [], ◌∷◌, ◌++◌}
-use mathlib.Core.Path.{◌≡◌, refl, sym, subst}
+use mathlib.Core.Path.{◌≡◌, refl, sym, ap, subst, ◌∙◌}
 use Prim.Native.Nat.{ℕ, ◌≤◌}
 use native.Mathlib.Omega.{arith}
 use lib.Dec.{eqb, ltb}
@@ -9,7 +9,8 @@ use lib.ListN.{take, drop}
 use borrow.Author.Tests.{ltb-false}
 use Rattle.bits.proofs.Booleans.{or_false}
 use Rattle.refusals.specs.Refusals.{refused, answered}
-use Rattle.output.specs.Output.{slot_count, in_memory, SampleAnswer}
+use Rattle.output.specs.Output.{slot_count, in_memory}
+use Rattle.output.specs.declared.SampleAnswer.{SampleAnswer}
 use Rattle.output.specs.WellFormed.{bad_depth}
 use Rattle.buffers.specs.declared.Turns.{Turns}
 use Rattle.rules.specs.declared.Device.{Device}
@@ -50,6 +51,10 @@ pub refuses : (m : Bool) → eqb (cond m 1 16) 0 ≡ false
 refuses true = refl
 refuses false = refl
 
+-- A board in mode one is its device in mode one.
+kept_one : (b : Board) → b.mode ≡ One → in_one b.device ≡ b
+kept_one b e = subst (λ (m : Mode). in_one b.device ≡ record { device = b.device; mode = m }) (sym e) refl
+
 -- A run by the mode.
 abbrev pub one_run : run_rules.RunResult → OneRun
 one_run r = record { number = r.number; board = in_one r.device; memory = r.memory }
@@ -77,6 +82,16 @@ run_in_one d memory start ws = rw (same_refusal d memory start ws) (go (eqb n 0)
 pub run_one : (b : Board) (memory : List ℕ) (start : ℕ) (ws : List ℕ) → b.mode ≡ One → run b memory start ws ≡ one_run (run_rules.run b.device memory start ws)
 run_one b memory start ws e =
     subst (λ (m : Mode). run (record { device = b.device; mode = m }) memory start ws ≡ one_run (run_rules.run b.device memory start ws)) (sym e) (run_in_one b.device memory start ws)
+
+-- Refused, the board is as it was.
+pub run_refused : (b : Board) (memory : List ℕ) (start : ℕ) (ws : List ℕ) {n : ℕ} {m : List ℕ} → b.mode ≡ One
+    → record { number = n; device = b.device; memory = m } ≡ run_rules.run b.device memory start ws
+    → ◌≡◌ {A = OneRun} (record { number = n; board = b; memory = m }) (run b memory start ws)
+run_refused b memory start ws {n = n} {m = m} e h =
+    subst
+    (λ (x : Board). ◌≡◌ {A = OneRun} (record { number = n; board = x; memory = m }) (run b memory start ws))
+    (kept_one b e)
+    (ap (λ (r : run_rules.RunResult). one_run r) h ∙ sym (run_one b memory start ws e))
 
 pub run_two : (b : Board) (t : Turns) (memory : List ℕ) (start : ℕ) (ws : List ℕ) → b.mode ≡ Two t
     → run b memory start ws ≡ record { number = cond (malformed b) 1 16; board = b; memory = memory }
@@ -116,6 +131,15 @@ sample_in_one d memory start w = rw (same_refusal d memory start (w ∷ [])) (go
 pub sample_one : (b : Board) (memory : List ℕ) (start w : ℕ) → b.mode ≡ One → sample b memory start w ≡ one_sample (run_rules.sample b.device memory start w)
 sample_one b memory start w e =
     subst (λ (m : Mode). sample (record { device = b.device; mode = m }) memory start w ≡ one_sample (run_rules.sample b.device memory start w)) (sym e) (sample_in_one b.device memory start w)
+
+pub sample_refused : (b : Board) (memory : List ℕ) (start w : ℕ) {n : ℕ} {m : List ℕ} → b.mode ≡ One
+    → record { answer = refused n; device = b.device; memory = m } ≡ run_rules.sample b.device memory start w
+    → ◌≡◌ {A = OneSample} (record { answer = refused n; board = b; memory = m }) (sample b memory start w)
+sample_refused b memory start w {n = n} {m = m} e h =
+    subst
+    (λ (x : Board). ◌≡◌ {A = OneSample} (record { answer = refused n; board = x; memory = m }) (sample b memory start w))
+    (kept_one b e)
+    (ap (λ (r : run_rules.SampleResult). one_sample r) h ∙ sym (sample_one b memory start w e))
 
 pub sample_two : (b : Board) (t : Turns) (memory : List ℕ) (start w : ℕ) → b.mode ≡ Two t
     → sample b memory start w ≡ record { answer = refused (cond (malformed b) 1 16); board = b; memory = memory }

@@ -1,8 +1,8 @@
--- Calls over two memories, and handing back, by the mode: in mode one they are refused; in mode two they pass the other tests in order, and then the samples run over both frame buffers.
+-- Calls over two memories, by the mode: in mode one they are refused; in mode two they pass the other tests in order, and then the samples run over both frame buffers.
 -- Assumes nothing.
-use mathlib.Core.Bool.{Bool, true, false, cond, ◌||◌}
+use mathlib.Core.Bool.{Bool, false, cond, ◌||◌}
 use mathlib.Core.List.{List, [], ◌∷◌}
-use mathlib.Core.Option.{Option}
+use Rattle.std.specs.Prelude.{Option}
 use mathlib.Core.Path.{◌≡◌, refl, sym, ap, subst, ◌∙◌}
 use Prim.Native.Nat.{ℕ, ◌+◌, ◌≤◌, ◌<◌, ◌^◌}
 use native.Mathlib.Omega.{arith}
@@ -16,7 +16,6 @@ use Rattle.run_refusals.specs.RunRefusals.{run_tests, refusal_of}
 use Rattle.output.specs.Output.{slot_count}
 use Rattle.output.specs.WellFormed.{Laid}
 use Rattle.buffers.specs.declared.Turns.{Turns}
-use Rattle.buffers.specs.Turns.{latest_complete}
 use Rattle.rules.specs.declared.Device.{Device}
 use Rattle.rules.specs.State.{output_of}
 use Rattle.rules.specs.WellFormed as device_clauses
@@ -28,11 +27,11 @@ use Rattle.board_rules.specs.State.{bad_turns, malformed}
 use Rattle.board_rules.specs.TwoBuffers as buffer_rules
 use Rattle.board_rules.specs.TwoBuffers.{two_step}
 use Rattle.board_rules.specs.BoardRuns.{Both, frame_buffer, beyond, memories, buffers, filled, turns_of, board, two_refusal, TwoRun, run_two, TwoSample, sample_two}
-use Rattle.board_rules.specs.HandingBack.{Spans, beyond_span, handing_refusal, handed_latest, latest_frame}
 use Rattle.board_rules.proofs.WellFormed.{TurnsOk, turns_facts}
 use Rattle.sampling.proofs.Ready.{ready}
 use Rattle.board.proofs.Modes.{refuses}
 use Rattle.board.proofs.TwoLandings.{same_landing}
+use Rattle.board_rules.specs.declared.Landing.{Landing}
 use Rattle.board.specs.Answers.{pair, Accepted, LeftTwo, left_two, ran_two, in_memories}
 
 -- What holds of a board in a mode holds of every board with that mode.
@@ -119,7 +118,7 @@ pub sample_in_one : (b : Board) (l : Both) (w : ℕ) → b.mode ≡ One
     → sample_two b l w ≡ record { answer = refused (cond (malformed b) 1 16); board = b; memories = memories l }
 sample_in_one b l w e = sample_refused b l w _ (refused_one b l (w ∷ []) e) (refuses (malformed b))
 
-pub sample_accepted : (b : Board) (t : Turns) (l : Both) (w : ℕ) {r : buffer_rules.TwoStepped} {o : Option buffer_rules.Landing}
+pub sample_accepted : (b : Board) (t : Turns) (l : Both) (w : ℕ) {r : buffer_rules.TwoStepped} {o : Option Landing}
     → b.mode ≡ Two t → two_refusal b l (w ∷ []) ≡ 0
     → r ≡ two_step (record { device = b.device; turns = t; buffers = buffers l }) w → o ≡ in_memories l.a.start l.b.start r.landing
     → ◌≡◌ {A = TwoSample}
@@ -127,25 +126,3 @@ pub sample_accepted : (b : Board) (t : Turns) (l : Both) (w : ℕ) {r : buffer_r
     (sample_two b l w)
 unfolding sample_two turns_of
 sample_accepted b t l w {r = r} e is stepped landed = rw (is, e, ← stepped, landed, same_landing l r.landing)
-
--- Handing back.
-module _ (b : Board) (s : Spans) where
-  pub none_in_one : b.mode ≡ One → refused (cond (malformed b) 1 16) ≡ latest_frame b s
-  unfolding latest_frame handing_refusal turns_of
-  none_in_one e =
-      in_mode (λ (x : Board). refused (cond (malformed x) 1 16) ≡ latest_frame x s) b One e
-      (rw (refuses (malformed (record { device = b.device; mode = One }))))
-
-  module _ (t : Turns) (e : b.mode ≡ Two t) where
-    pub malformed_in_two : malformed b ≡ true → refused 1 ≡ latest_frame b s
-    unfolding latest_frame handing_refusal
-    malformed_in_two m = rw (m)
-
-    pub beyond_in_two : malformed b ≡ false → (beyond_span s.a || beyond_span s.b) ≡ true → refused 9 ≡ latest_frame b s
-    unfolding latest_frame handing_refusal
-    beyond_in_two m y = rw (m, e, y)
-
-    pub found_in_two : malformed b ≡ false → (beyond_span s.a || beyond_span s.b) ≡ false
-        → answered (handed_latest (latest_complete t) b.device t s) ≡ latest_frame b s
-    unfolding latest_frame handing_refusal turns_of
-    found_in_two m y = rw (m, e, y)

@@ -5,67 +5,43 @@ ghost use Rattle.board_rules.specs.State as board_state;
 ghost use Rattle.board_rules.specs.BoardRuns as board_runs;
 ghost use Rattle.board.specs.Answers as call_answers;
 
-use crate::{Changed, Sampled, malformed};
+use crate::{Sampled, in_one, malformed};
 use board_rules::{Board, Mode};
-use device::Reply;
-use refusals::{Outcome, Refusal};
+use refusals::Refusal;
 
 // A run: refusals 1, 16, 9, 7, 8, or the device's.
-pub fn run(b: Board, memory: &mut [u8], start: usize, samples: &[u32]) -> Changed
-    ensures { call_answers.ran result memory.new ≡ board_runs.run b memory.old start samples.now }
+pub fn run(b: Board, memory: &mut [u8], start: usize, samples: &[u32]) -> Result<Board, Refusal>
+    ensures { call_answers.ran b result memory.new ≡ board_runs.run b memory.old start samples.now }
 {
-    let mode = b.mode;
-    match mode {
-        Mode::One => {
-            let after = device::run(b.device, memory, start, samples);
-            let device = after.device;
-            let outcome = after.outcome;
-            Changed {
-                board: Board {
-                    device,
-                    mode: Mode::One,
-                },
-                outcome,
-            }
-        }
-        Mode::Two(_) => Changed {
-            board: b,
-            outcome: Outcome::Refused(unmatched(b)),
-        },
+    match b.mode {
+        Mode::One => Ok(in_one(device::run(b.device, memory, start, samples)?)),
+        Mode::Two(_) => Err(unmatched(b)),
     }
 }
 
-// Why a call over memories that do not match the mode is refused.
+// Why a call over memories that do not match the mode is refused: 1 where the board is malformed, else 16. For the calls here, and for the crate `device_calls`.
 pub fn unmatched(b: Board) -> Refusal
     ensures { number result ≡ cond (board_state.malformed b) 1 16 }
 {
     if malformed(b) {
-        return Refusal::Malformed;
+        Refusal::Malformed
+    } else {
+        Refusal::BufferMode
     }
-    Refusal::BufferMode
 }
 
 // One sample: refusals 1, 16, 9, 7, 8, or the device's.
-pub fn sample(b: Board, memory: &mut [u8], start: usize, w: u32) -> Sampled
-    ensures { call_answers.sampled result memory.new ≡ board_runs.sample b memory.old start w }
+pub fn sample(b: Board, memory: &mut [u8], start: usize, w: u32) -> Result<Sampled, Refusal>
+    ensures { call_answers.sampled b result memory.new ≡ board_runs.sample b memory.old start w }
 {
-    let mode = b.mode;
-    match mode {
+    match b.mode {
         Mode::One => {
-            let after = device::sample(b.device, memory, start, w);
-            let device = after.device;
-            let reply = after.reply;
-            Sampled {
-                board: Board {
-                    device,
-                    mode: Mode::One,
-                },
-                reply,
-            }
+            let after = device::sample(b.device, memory, start, w)?;
+            Ok(Sampled {
+                board: in_one(after.device),
+                answer: after.answer,
+            })
         }
-        Mode::Two(_) => Sampled {
-            board: b,
-            reply: Reply::Refused(unmatched(b)),
-        },
+        Mode::Two(_) => Err(unmatched(b)),
     }
 }

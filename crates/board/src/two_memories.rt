@@ -1,20 +1,20 @@
 // A run of samples, and one sample, over two lent memories, each from its start byte on: in mode two.
+// The memories and their starts come one by one, as in C (include/dcmi.h): a struct would be made for each call and taken apart in it.
 ghost use Rattle.std.specs.Prelude.{◌||◌, ◌≡◌, ◌+◌, ltb, length};
 ghost use Rattle.refusals.specs.Table.{outcome};
 ghost use Rattle.run_refusals.specs.RunRefusals.{refusal_of};
 ghost use Rattle.board_rules.specs.TwoBuffers as buffer_rules;
 ghost use Rattle.board_rules.specs.BoardRuns as board_runs;
-ghost use Rattle.two_buffers.specs.Answers as two_answers;
 ghost use Rattle.board.specs.Answers as call_answers;
 
 use crate::one_memory::unmatched;
-use crate::{Changed, TwoAccepted, TwoReply, TwoSampled, malformed};
-use board_rules::{Board, Mode};
+use crate::{TwoAccepted, TwoSampled, malformed};
+use board_rules::{Board, Landing, Mode, TwoAnswer};
 use buffers::{Buffer, Turns};
-use refusals::{Outcome, Refusal};
+use refusals::Refusal;
 use rules::Device;
 use run_refusals::refusal_of;
-use two_buffers::{Turned, TwoLanding, two_step, two_steps};
+use two_buffers::{Turned, two_step, two_steps};
 
 // The refusals 1, 9 of either start, 7, 8 in order, by whether the board is malformed and how many samples it has counted.
 fn refusal_of_both(
@@ -25,14 +25,14 @@ fn refusal_of_both(
     memory_b: &[u8],
     start_b: usize,
     samples: &[u32],
-) -> Outcome
+) -> Result<(), Refusal>
     ensures { outcome result ≡ refusal_of bad (ltb (length memory_a.now) start_a || ltb (length memory_b.now) start_b) before samples.now }
 {
     if bad {
-        return Outcome::Refused(Refusal::Malformed);
+        return Err(Refusal::Malformed);
     }
     if memory_a.len() < start_a {
-        return Outcome::Refused(Refusal::StartBeyond);
+        return Err(Refusal::StartBeyond);
     }
     refusal_of(false, before, memory_b, start_b, samples)
 }
@@ -49,19 +49,17 @@ fn accepted_run(
     ensures { call_answers.left_two result buffer_a.new buffer_b.new ≡ call_answers.ran_two d turns buffer_a.old buffer_b.old samples.now }
 {
     let mut slots = d.slots;
-    let core = d.core;
-    let after = two_steps(
-        Turned { core, turns },
-        &mut slots,
-        buffer_a,
-        buffer_b,
-        samples,
-    );
-    let core = after.core;
-    let turns = after.turns;
+    let before = Turned {
+        core: d.core,
+        turns,
+    };
+    let after = two_steps(before, &mut slots, buffer_a, buffer_b, samples);
     Board {
-        device: Device { core, slots },
-        mode: Mode::Two(turns),
+        device: Device {
+            core: after.core,
+            slots,
+        },
+        mode: Mode::Two(after.turns),
     }
 }
 
@@ -73,58 +71,50 @@ pub fn run_two(
     memory_b: &mut [u8],
     start_b: usize,
     samples: &[u32],
-) -> Changed
-    ensures { call_answers.two_ran result memory_a.new memory_b.new ≡ board_runs.run_two b (call_answers.both memory_a.old start_a memory_b.old start_b) samples.now }
+) -> Result<Board, Refusal>
+    ensures { call_answers.two_ran b result memory_a.new memory_b.new ≡ board_runs.run_two b (call_answers.both memory_a.old start_a memory_b.old start_b) samples.now }
 {
-    let mode = b.mode;
-    match mode {
-        Mode::One => Changed {
-            board: b,
-            outcome: Outcome::Refused(unmatched(b)),
-        },
-        Mode::Two(turns) => {
-            let bad = malformed(b);
-            let outcome = refusal_of_both(
-                bad,
-                b.device.core.output.counts.samples,
-                memory_a,
-                start_a,
-                memory_b,
-                start_b,
-                samples,
-            );
-            match outcome {
-                Outcome::Refused(refusal) => Changed {
-                    board: b,
-                    outcome: Outcome::Refused(refusal),
-                },
-                Outcome::Accepted => Changed {
-                    board: accepted_run(
-                        b.device,
-                        turns,
-                        &mut memory_a[start_a..],
-                        &mut memory_b[start_b..],
-                        samples,
-                    ),
-                    outcome: Outcome::Accepted,
-                },
-            }
-        }
+    let Mode::Two(turns) = b.mode else {
+        return Err(unmatched(b));
+    };
+    refusal_of_both(
+        malformed(b),
+        b.device.core.output.counts.samples,
+        memory_a,
+        start_a,
+        memory_b,
+        start_b,
+        samples,
+    )?;
+    Ok(accepted_run(
+        b.device,
+        turns,
+        &mut memory_a[start_a..],
+        &mut memory_b[start_b..],
+        samples,
+    ))
+}
+
+fn start_in(u: Buffer, start_a: usize, start_b: usize) -> usize
+    ensures { result ≡ call_answers.start_in start_a start_b u }
+{
+    match u {
+        Buffer::A => start_a,
+        Buffer::B => start_b,
     }
 }
 
 // A byte of a frame buffer as a byte of its memory.
-fn in_memories(start_a: usize, start_b: usize, landing: TwoLanding) -> TwoLanding
-    requires { call_answers.Within start_a start_b (two_answers.landing landing) }
-    ensures { two_answers.landing result ≡ call_answers.in_memories start_a start_b (two_answers.landing landing) }
+#[tactic(auto, unfolding(crate::specs::Answers::in_memories))]
+fn in_memories(start_a: usize, start_b: usize, landing: Option<Landing>) -> Option<Landing>
+    requires { call_answers.Within start_a start_b landing }
+    ensures { result ≡ call_answers.in_memories start_a start_b landing }
 {
-    match landing {
-        TwoLanding::Nowhere => TwoLanding::Nowhere,
-        TwoLanding::In(u, byte) => match u {
-            Buffer::A => TwoLanding::In(Buffer::A, start_a + byte),
-            Buffer::B => TwoLanding::In(Buffer::B, start_b + byte),
-        },
-    }
+    let Landing { buffer, byte } = landing?;
+    Some(Landing {
+        buffer,
+        byte: start_in(buffer, start_a, start_b) + byte,
+    })
 }
 
 // An accepted sample, in mode two; the landing is a byte of its frame buffer.
@@ -139,18 +129,18 @@ fn accepted_sample(
     ensures { call_answers.stepped_two result buffer_a.new buffer_b.new ≡ buffer_rules.two_step (call_answers.two d turns buffer_a.old buffer_b.old) w }
 {
     let mut slots = d.slots;
-    let core = d.core;
-    let r = two_step(Turned { core, turns }, &mut slots, buffer_a, buffer_b, w);
-    let landing = r.landing;
-    let packing = r.packing;
-    let after = r.after;
-    let core = after.core;
-    let turns = after.turns;
-    TwoAccepted {
-        device: Device { core, slots },
+    let before = Turned {
+        core: d.core,
         turns,
-        landing,
-        packing,
+    };
+    let r = two_step(before, &mut slots, buffer_a, buffer_b, w);
+    TwoAccepted {
+        device: Device {
+            core: r.after.core,
+            slots,
+        },
+        turns: r.after.turns,
+        answer: r.answer,
     }
 }
 
@@ -162,54 +152,38 @@ pub fn sample_two(
     memory_b: &mut [u8],
     start_b: usize,
     w: u32,
-) -> TwoSampled
-    ensures { call_answers.two_sampled result memory_a.new memory_b.new ≡ board_runs.sample_two b (call_answers.both memory_a.old start_a memory_b.old start_b) w }
+) -> Result<TwoSampled, Refusal>
+    ensures { call_answers.two_sampled b result memory_a.new memory_b.new ≡ board_runs.sample_two b (call_answers.both memory_a.old start_a memory_b.old start_b) w }
 {
-    let mode = b.mode;
-    match mode {
-        Mode::One => TwoSampled {
-            board: b,
-            reply: TwoReply::Refused(unmatched(b)),
+    let Mode::Two(turns) = b.mode else {
+        return Err(unmatched(b));
+    };
+    let one = [w];
+    refusal_of_both(
+        malformed(b),
+        b.device.core.output.counts.samples,
+        memory_a,
+        start_a,
+        memory_b,
+        start_b,
+        &one,
+    )?;
+    let after = accepted_sample(
+        b.device,
+        turns,
+        &mut memory_a[start_a..],
+        &mut memory_b[start_b..],
+        w,
+    );
+    let landing = in_memories(start_a, start_b, after.answer.landing);
+    Ok(TwoSampled {
+        board: Board {
+            device: after.device,
+            mode: Mode::Two(after.turns),
         },
-        Mode::Two(turns) => {
-            let bad = malformed(b);
-            let one = [w];
-            let outcome = refusal_of_both(
-                bad,
-                b.device.core.output.counts.samples,
-                memory_a,
-                start_a,
-                memory_b,
-                start_b,
-                &one,
-            );
-            match outcome {
-                Outcome::Refused(refusal) => TwoSampled {
-                    board: b,
-                    reply: TwoReply::Refused(refusal),
-                },
-                Outcome::Accepted => {
-                    let after = accepted_sample(
-                        b.device,
-                        turns,
-                        &mut memory_a[start_a..],
-                        &mut memory_b[start_b..],
-                        w,
-                    );
-                    let device = after.device;
-                    let turns = after.turns;
-                    let packing = after.packing;
-                    let found = after.landing;
-                    let landing = in_memories(start_a, start_b, found);
-                    TwoSampled {
-                        board: Board {
-                            device,
-                            mode: Mode::Two(turns),
-                        },
-                        reply: TwoReply::Answered(landing, packing),
-                    }
-                }
-            }
-        }
-    }
+        answer: TwoAnswer {
+            landing,
+            ..after.answer
+        },
+    })
 }

@@ -2,7 +2,7 @@
 -- The idea: a sample over two memories is a placing at the oldest held word's place, a sample over its buffer, and a placing at A's; what a board refuses is no call of the device. Assumes nothing.
 use mathlib.Core.Bool.{Bool, true, false, cond, not, ◌||◌}
 use mathlib.Core.List.{List, [], ◌∷◌, ◌++◌, map, append_assoc, append-nil}
-use mathlib.Core.Option.{Option, none, some}
+use Rattle.std.specs.Prelude.{Option, None, Some}
 use mathlib.Core.Path.{◌≡◌, refl, ap, sym, ◌∙◌, subst}
 use Prim.Native.Nat.{ℕ, ◌+◌, ◌≤◌}
 use native.Mathlib.Omega.{arith}
@@ -127,8 +127,8 @@ unfolding two_step with_place
 two_step_samples x w = step_samples (placed (oldest_place x.device.core.output.place x.turns) x.device) (part (oldest_buffer x.turns) x.buffers) w
 
 pub same_byte : (u : Buffer) (o : Option ℕ) → landing_byte (landing_in u o) ≡ o
-same_byte u none = refl
-same_byte u (some byte) = refl
+same_byte u None = refl
+same_byte u (Some byte) = refl
 
 two_step_does : (x : buffer_rules.Two) (w : ℕ) (ds : List device_histories.Call) (d' : Device) (es : List Event) → WellFormed x.device → TurnsOk x.device.core.output x.turns
     → any_bad (w ∷ []) ≡ false → x.device.core.output.counts.samples + 1 ≤ 4294967295

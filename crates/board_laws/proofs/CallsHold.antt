@@ -16,8 +16,7 @@ use Rattle.buffers.specs.Story as story
 use Rattle.buffers.specs.Story.{Tale, closed_otherwise, armed_anew}
 use Rattle.buffers.proofs.Words.{held_words}
 use Rattle.registers.specs.Map.{register_at}
-use Rattle.registers.specs.declared.Found.{Found}
-use Rattle.registers.specs.declared.Found.TheVariants.{At, Nothing}
+use Rattle.std.specs.Prelude.{Option, Some, None}
 use Rattle.output.specs.Output.{OutputState, contents, with_held, holding, with_place, discard}
 use Rattle.rules.specs.declared.Device.{Device}
 use Rattle.rules.specs.State.{capture_of, output_of}
@@ -44,6 +43,7 @@ use Rattle.board_laws.proofs.BoardConservation.{board_facts, write_counted, call
 use Rattle.board_laws.proofs.AsDevice.{two_steps_enable}
 use Rattle.board_laws.proofs.CompleteFrames.{Explains, tell_append, call_explained}
 use Rattle.board_laws.proofs.InBuffers.{Holds, holds_discarded, holds_rearmed}
+use Rattle.registers.specs.declared.Register.{Register}
 use Rattle.board_laws.proofs.SampleHolds.{two_steps_hold}
 
 -- A start is above its memory's length: then no samples over two memories are accepted.
@@ -72,10 +72,10 @@ same_empties : (falls : Bool) (x : OutputState) → Emptied falls x x
 same_empties true x e = no_contents x e
 same_empties false x e = refl
 
-write_at_empties : (falls : Bool) (d : Device) (r : Found) (v : ℕ) → Emptied falls (output_of d) (output_of (register_rules.write_at d r v))
+write_at_empties : (falls : Bool) (d : Device) (r : Option Register) (v : ℕ) → Emptied falls (output_of d) (output_of (register_rules.write_at d r v))
 unfolding register_rules.write_at
-write_at_empties falls d Nothing v = same_empties falls (output_of d)
-write_at_empties falls d (At r) v =
+write_at_empties falls d None v = same_empties falls (output_of d)
+write_at_empties falls d (Some r) v =
     either (Emptied falls (output_of d)) (register_rules.disables d.core.capture.registers.cr r v) (discard_empties falls (output_of d)) (same_empties falls (output_of d))
 
 write_empties : (falls : Bool) (d : Device) (offset v : ℕ) → Emptied falls (output_of d) (output_of (register_rules.write d offset v).device)

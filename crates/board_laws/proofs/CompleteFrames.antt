@@ -18,8 +18,7 @@ use Rattle.buffers.specs.Kept.{Kept, start, keep, keeps, complete_of}
 use Rattle.buffers.proofs.Told.{complete_is_history}
 use Rattle.buffers.proofs.LatestFrame.{latest_is_history}
 use Rattle.registers.specs.Map.{register_at}
-use Rattle.registers.specs.declared.Found.{Found}
-use Rattle.registers.specs.declared.Found.TheVariants.{At, Nothing}
+use Rattle.std.specs.Prelude.{Option, Some, None}
 use Rattle.output.specs.Output.{OutputState, with_held, holding, with_counts, with_place, count_discarded, discard}
 use Rattle.output.specs.WellFormed.{bad_depth}
 use Rattle.rules.specs.declared.Device.{Device}
@@ -45,6 +44,7 @@ use Rattle.board_rules.specs.TwoBuffers.{part, sample_events, two_step, two_step
 use Rattle.board_laws.specs.BoardHistories.{Call, a_write, a_rearming, one_buffer, two_buffers, a_run, a_sample, a_run_two, a_sample_two, after, after_all, reached, Happening, on_device, rearmed, mode_set, landing_byte, two_samplings, samplings_of, changes_of, device_events, happenings, happenings_of_all, history, frame_events, tell, tell_all, frames}
 use Rattle.board_laws.proofs.TwoKeeps.{keeps_append, two_step_held}
 use Rattle.board_laws.proofs.BoardConservation.{board_facts, write_counted, call_keeps, fresh_board_well}
+use Rattle.registers.specs.declared.Register.{Register}
 use Rattle.board_laws.proofs.AsDevice.{same_byte, two_steps_enable}
 
 -- Some events make of a fresh start what is kept, and tell these frames.
@@ -99,10 +99,10 @@ two_steps_explained x (w ∷ ws) fs h =
     two_steps_explained r.after ws _ (explained_on (sample_events (capture_of x.device) w (landing_byte r.landing) r.packed) h (two_step_kept x w) refl)
 
 -- A register write. It leaves the place; where ENABLE falls, nothing is held after it.
-write_at_place : (d : Device) (r : Found) (v : ℕ) → (register_rules.write_at d r v).core.output.place ≡ d.core.output.place
+write_at_place : (d : Device) (r : Option Register) (v : ℕ) → (register_rules.write_at d r v).core.output.place ≡ d.core.output.place
 unfolding register_rules.write_at discard holding with_held count_discarded with_counts
-write_at_place d Nothing v = refl
-write_at_place d (At r) v =
+write_at_place d None v = refl
+write_at_place d (Some r) v =
     either (λ (x : OutputState). x.output.place ≡ d.core.output.place) (register_rules.disables d.core.capture.registers.cr r v) refl refl
 
 write_place : (d : Device) (offset v : ℕ) → (register_rules.write d offset v).device.core.output.place ≡ d.core.output.place

@@ -3,7 +3,7 @@
 -- The idea: for the device a board's calls are calls of its own (`by_device`). Assumes nothing.
 use mathlib.Core.Bool.{Bool, true, false, ◌&&◌}
 use mathlib.Core.List.{List, [], ◌∷◌, ◌++◌}
-use mathlib.Core.Option.{Option}
+use Rattle.std.specs.Prelude.{Option}
 use mathlib.Core.Path.{◌≡◌}
 use Prim.Native.Nat.{ℕ, ◌≤◌}
 use Rattle.bits.specs.Bits.{bit}
@@ -17,7 +17,7 @@ use Rattle.rules.specs.declared.Frame.TheVariants.{Open}
 use Rattle.rules.specs.declared.Capture.{Capture}
 use Rattle.rules.specs.Capture.{working_edge, enabled, blanking, window_ended}
 use Rattle.rules.specs.Sample.{byte_of}
-use Rattle.output.specs.Output.{Packed}
+use Rattle.output.specs.declared.Packing.{Packing as Packed}
 use Rattle.laws.specs.Histories as device_histories
 use Rattle.laws.specs.Histories.{Event, sampled, no_errors, without_codes}
 use Rattle.output.specs.Ledger.{numbers}

@@ -3,7 +3,7 @@
 -- The idea: held words and frame buffers are as the history's frames tell (CallsHold); a complete frame's words have all landed, so that all of them stand there. Assumes nothing.
 use mathlib.Core.Bool.{Bool, true, false, cond, false≢true}
 use mathlib.Core.List.{List, []}
-use mathlib.Core.Option.{Option, none, some}
+use Rattle.std.specs.Prelude.{Option, None, Some}
 use mathlib.Core.Path.{◌≡◌, refl, ap, sym, ◌∙◌, subst}
 use Prim.Native.Nat.{ℕ, ◌-◌, ◌*◌, ◌≤◌}
 use native.Mathlib.Omega.{arith}
@@ -34,7 +34,9 @@ use Rattle.board_rules.specs.declared.Board.{Board}
 use Rattle.board_rules.specs.State.{is_two, kept_of, malformed}
 use Rattle.board_rules.specs.BoardCalls as board_calls
 use Rattle.board_rules.specs.BoardRuns.{Both, frame_buffer, lent, buffers, turns_of}
-use Rattle.board_rules.specs.HandingBack.{Handed, frame_in, span_of, spans, handing_refusal, handed_from, handed_latest, latest_frame, hand_back, handed_part}
+use Rattle.board_rules.specs.HandingBack.{span_of, spans, handing_refusal, handed_from, handed_latest, latest_frame, hand_back, handed_part}
+use Rattle.board_rules.specs.declared.Handed.{Handed}
+use Rattle.board_rules.specs.declared.Handed.TheVariants.{FrameIn as frame_in}
 use Rattle.board_rules.specs.TwoBuffers.{part}
 use Rattle.board_laws.specs.BoardHistories.{Call}
 use Rattle.board_laws.specs.Handing.{Bare, calls, board_after, memories_after, frames_after, frame_handed, to_hand}
@@ -45,8 +47,8 @@ use Rattle.board_laws.proofs.SampleHolds.{tells_of}
 use Rattle.board_laws.proofs.CallsHold.{off, Shows, calls_show}
 
 -- Of a complete frame: it is in its buffer, its words have all landed since the last re-arming, and stand there from the first byte on.
-module _ (k : Kept) (fs : List Tale) (t : Tells k fs) (f : Tale) (is : latest_in fs ≡ some f) where
-  here : story.frame_in f.buffer fs ≡ some f
+module _ (k : Kept) (fs : List Tale) (t : Tells k fs) (f : Tale) (is : latest_in fs ≡ Some f) where
+  here : story.frame_in f.buffer fs ≡ Some f
   here = (latest_there fs f is).0
 
   all_since : f.since ≡ completed f
@@ -84,13 +86,13 @@ module _ (d : Device) (t : Turns) (l : Both) (fs : List Tale) (told : Tells (kep
 
   latest_handed : (o : Option Tale) → latest_in fs ≡ o → handed_latest (which o) d t (spans l) ≡ frame_handed o
   unfolding which handed_latest handed_from frame_handed
-  latest_handed none is = refl
-  latest_handed (some f) is =
+  latest_handed None is = refl
+  latest_handed (Some f) is =
       let long = long_enough (kept_of d t) fs told f is (frame_buffer (lent f.buffer l)) (stands_there f) in
       let s = span_of f.buffer (spans l) in
       rw (all_placed (kept_of d t) fs told f is, le-ltb (s.length - s.start) (4 * completed f) (omega (arith, by_span f.buffer l)))
 
-  latest_part : (f : Tale) → latest_in fs ≡ some f → handed_part (answered (frame_in f.buffer (4 * completed f))) l ≡ all_bytes f.words
+  latest_part : (f : Tale) → latest_in fs ≡ Some f → handed_part (answered (frame_in f.buffer (4 * completed f))) l ≡ all_bytes f.words
   unfolding handed_part
   latest_part f is = all_stand (kept_of d t) fs told f is (frame_buffer (lent f.buffer l)) (stands_there f)
 
@@ -108,7 +110,7 @@ in_mode : {P : Type 0} (x : Mode) → is_two x ≡ true → ((t : Turns) → x �
 in_mode One e p = absurd (false≢true e)
 in_mode (Two t) e p = p t refl
 
-none_complete : (f : Tale) → latest_in [] ≡ some f → ⊥
+none_complete : (f : Tale) → latest_in [] ≡ Some f → ⊥
 unfolding latest_in
 none_complete f e = let z : ◌≡◌ {A = ℕ} 0 1 = cc in omega arith
 
@@ -144,14 +146,14 @@ module _ (depth : ℕ) (sound : bad_depth depth ≡ false) (l : Both) (qs : List
       ∙ ap (λ (x : Handed). cond (off m) (refused 9) (answered x)) (latest_handed b.device t m fs (told t two) (shown t two).0 (latest_in fs) refl)
 
   -- Where a frame is complete no start is beyond its memory.
-  inside : (t : Turns) → b.mode ≡ Two t → (f : Tale) → latest_in fs ≡ some f → off m ≡ false
+  inside : (t : Turns) → b.mode ≡ Two t → (f : Tale) → latest_in fs ≡ Some f → off m ≡ false
   inside t two f is = go (off m) refl
     where
       go : (away : Bool) → off m ≡ away → away ≡ false
       go true o = absurd (none_complete f (ap latest_in (sym ((shown t two).1 o)) ∙ is))
       go false o = refl
 
-  answer_of : (t : Turns) → b.mode ≡ Two t → (f : Tale) → latest_in fs ≡ some f → hand_back b m ≡ answered (frame_in f.buffer (4 * completed f))
+  answer_of : (t : Turns) → b.mode ≡ Two t → (f : Tale) → latest_in fs ≡ Some f → hand_back b m ≡ answered (frame_in f.buffer (4 * completed f))
   unfolding to_hand frame_handed
   answer_of t two f is = in_two t two ∙ rw (inside t two f is, is)
 
@@ -160,7 +162,7 @@ module _ (depth : ℕ) (sound : bad_depth depth ≡ false) (l : Both) (qs : List
   handing_is_history two = in_mode b.mode two in_two
 
   -- Where a frame is complete the latest is handed back, and the part is the bytes of the words that it completed, in order.
-  pub handed_is_frame : is_two b.mode ≡ true → (f : Tale) → latest_in fs ≡ some f
+  pub handed_is_frame : is_two b.mode ≡ true → (f : Tale) → latest_in fs ≡ Some f
       → (hand_back b m ≡ answered (frame_in f.buffer (4 * completed f))) × (handed_part (hand_back b m) m ≡ all_bytes f.words)
   handed_is_frame two f is =
       in_mode b.mode two

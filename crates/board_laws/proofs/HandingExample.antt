@@ -2,7 +2,7 @@
 -- its end; then re-arming. Assumes nothing.
 use mathlib.Core.Bool.{true, false}
 use mathlib.Core.List.{List, [], ◌∷◌, ◌++◌}
-use mathlib.Core.Option.{none, some}
+use Rattle.std.specs.Prelude.{None, Some}
 use mathlib.Core.Path.{◌≡◌, refl}
 use native.Mathlib.Omega.{arith}
 use Rattle.buffers.specs.declared.Buffer.TheVariants.{B}
@@ -32,8 +32,8 @@ lost_then_two =
 abbrev pub second : Tale
 second = record { buffer = B; words = 0x80007 ∷ 0xA0009 ∷ []; landed = 2; since = 2; ended = true; gone = false }
 
-pub example : (latest_in (frames_after 2 usual lost_then_two) ≡ some second)
+pub example : (latest_in (frames_after 2 usual lost_then_two) ≡ Some second)
     × (handed_part (hand_back (board_after 2 usual lost_then_two) (memories_after 2 usual lost_then_two)) (memories_after 2 usual lost_then_two) ≡ pixels 7 8 ++ pixels 9 10)
-    × (latest_in (frames_after 2 usual (lost_then_two ++ a_rearming ∷ [])) ≡ none)
+    × (latest_in (frames_after 2 usual (lost_then_two ++ a_rearming ∷ [])) ≡ None)
 unfolding every_board_rule lost_then_two over memories_left calls memories_left_by board_histories.after board_histories.after_all board_histories.two_samplings board_histories.samplings_of board_histories.changes_of board_histories.device_events board_histories.happenings board_histories.happenings_of_all board_histories.frame_events board_histories.tell board_histories.tell_all device_histories.samplings device_histories.disabling_of story.any_waiting story.word_of story.landing_of story.ending_of story.tell story.story story.frame_in story.if_complete story.complete_in latest_in
 example = (refl, refl, refl)

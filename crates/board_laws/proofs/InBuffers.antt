@@ -3,7 +3,7 @@
 -- Assumes nothing.
 use mathlib.Core.Bool.{Bool, true, false, cond, not, ◌&&◌}
 use mathlib.Core.List.{List, [], ◌∷◌, ◌++◌, map}
-use mathlib.Core.Option.{Option, none, some}
+use Rattle.std.specs.Prelude.{Option, None, Some}
 use mathlib.Core.Path.{◌≡◌, refl, sym, ap, ◌∙◌, subst}
 use Prim.Native.Nat.{ℕ, suc, ◌+◌, ◌*◌, ◌≤◌, ◌<◌}
 use native.Mathlib.Numerals.{add-one}
@@ -32,8 +32,8 @@ use Rattle.board_rules.specs.TwoBuffers.{Pair, part, with_part}
 
 -- In a buffer, by the frame in it.
 abbrev pub Stands : List ℕ → Option Tale → Type 0
-Stands m none = Unit {0}
-Stands m (some f) = f.since ≡ f.landed → take (4 * f.landed) m ≡ all_bytes (take f.landed f.words)
+Stands m None = Unit {0}
+Stands m (Some f) = f.since ≡ f.landed → take (4 * f.landed) m ≡ all_bytes (take f.landed f.words)
 
 abbrev is_in : Buffer → Tale → Bool
 is_in u f = same_buffer u f.buffer && ltb 0 f.landed
@@ -47,7 +47,7 @@ stands_word u vs m (f ∷ fs) s h =
     (λ e. go (is_in u f) h)
     (λ e. subst (Stands m) (sym (skip u (first_of vs (other f.buffer)) (f ∷ fs) refl)) h)
   where
-    go : (b : Bool) → Stands m (cond b (some f) (frame_in u fs)) → Stands m (cond b (some (one_more vs f)) (frame_in u fs))
+    go : (b : Bool) → Stands m (cond b (Some f) (frame_in u fs)) → Stands m (cond b (Some (one_more vs f)) (frame_in u fs))
     go true h = λ e. h e ∙ ap all_bytes (sym (take-append-le f.landed f.words vs s.0.part))
     go false h = h
 
@@ -57,7 +57,7 @@ unfolding frame_in
 stands_closed u m [] h = h
 stands_closed u m (f ∷ fs) h = go (is_in u f) (stands_closed u m fs) h
   where
-    go : (b : Bool) → (Stands m (frame_in u fs) → Stands m (frame_in u (map closed_otherwise fs))) → Stands m (cond b (some f) (frame_in u fs)) → Stands m (cond b (some (closed_otherwise f)) (frame_in u (map closed_otherwise fs)))
+    go : (b : Bool) → (Stands m (frame_in u fs) → Stands m (frame_in u (map closed_otherwise fs))) → Stands m (cond b (Some f) (frame_in u fs)) → Stands m (cond b (Some (closed_otherwise f)) (frame_in u (map closed_otherwise fs)))
     go true rest h = h
     go false rest h = rest h
 
@@ -71,7 +71,7 @@ unfolding frame_in
 stands_armed u m [] = tt
 stands_armed u m (f ∷ fs) = go (is_in u f) (stands_armed u m fs)
   where
-    go : (b : Bool) → Stands m (frame_in u (map armed_anew fs)) → Stands m (cond b (some (armed_anew f)) (frame_in u (map armed_anew fs)))
+    go : (b : Bool) → Stands m (frame_in u (map armed_anew fs)) → Stands m (cond b (Some (armed_anew f)) (frame_in u (map armed_anew fs)))
     go true rest = λ e. nothing_stands f.landed m f.words (sym e)
     go false rest = rest
 
@@ -81,7 +81,7 @@ unfolding ending_of frame_in
 stands_end u m [] h = h
 stands_end u m (f ∷ fs) h = by_cond (λ (l : List Tale). Stands m (frame_in u l)) (running f) _ _ (λ e. go (is_in u f) h) (λ e. h)
   where
-    go : (b : Bool) → Stands m (cond b (some f) (frame_in u fs)) → Stands m (cond b (some (by_rule_4 f)) (frame_in u fs))
+    go : (b : Bool) → Stands m (cond b (Some f) (frame_in u fs)) → Stands m (cond b (Some (by_rule_4 f)) (frame_in u fs))
     go true h = h
     go false h = h
 
@@ -93,8 +93,8 @@ one_stored n v m space =
     let long : length (take (4 * n) m ++ bytes v) ≡ 4 * (n + 1) = rw (length-append, front, length_little 4 v) (omega arith) in
     take_at (take (4 * n) m ++ bytes v) (drop (4 * n + 4) m) (4 * (n + 1)) long
 
-one_stands : (f : Tale) (m : List ℕ) → f.landed < completed f → f.since ≤ f.landed → room f.since m ≡ true → (eqb f.landed 0 ≡ false → Stands m (some f))
-    → Stands (stored f.since (get_or f.words f.landed 0) m) (some (one_landed f))
+one_stands : (f : Tale) (m : List ℕ) → f.landed < completed f → f.since ≤ f.landed → room f.since m ≡ true → (eqb f.landed 0 ≡ false → Stands m (Some f))
+    → Stands (stored f.since (get_or f.words f.landed 0) m) (Some (one_landed f))
 one_stands f m less recent space before = λ e.
     let n = f.landed in
     let is : f.since ≡ n = omega arith in
@@ -119,7 +119,7 @@ stands_landed : (fs : List Tale) (p : Pair) → Sound fs → any_waiting fs ≡ 
 stands_landed fs p s w h space u =
     rw (part_with u (eldest fs).buffer (stored (eldest fs).since (get_or (eldest fs).words (eldest fs).landed 0) (part (eldest fs).buffer p)) p, frame_landing u fs s w) (go (same_buffer u (eldest fs).buffer) refl)
   where
-    now : Stands (stored (eldest fs).since (get_or (eldest fs).words (eldest fs).landed 0) (part (eldest fs).buffer p)) (some (one_landed (eldest fs)))
+    now : Stands (stored (eldest fs).since (get_or (eldest fs).words (eldest fs).landed 0) (part (eldest fs).buffer p)) (Some (one_landed (eldest fs)))
     now =
         one_stands (eldest fs) (part (eldest fs).buffer p)
         (ltb-true (eldest fs).landed (completed (eldest fs)) (and_true (not (eldest fs).gone) (ltb (eldest fs).landed (completed (eldest fs))) (eldest_waits fs w)).1)
@@ -127,7 +127,7 @@ stands_landed fs p s w h space u =
         (λ z. subst (Stands (part (eldest fs).buffer p)) (frame_eldest fs s w z) (h (eldest fs).buffer))
 
     go : (b : Bool) → same_buffer u (eldest fs).buffer ≡ b
-        → Stands (cond b (stored (eldest fs).since (get_or (eldest fs).words (eldest fs).landed 0) (part (eldest fs).buffer p)) (part u p)) (cond b (some (one_landed (eldest fs))) (frame_in u fs))
+        → Stands (cond b (stored (eldest fs).since (get_or (eldest fs).words (eldest fs).landed 0) (part (eldest fs).buffer p)) (part u p)) (cond b (Some (one_landed (eldest fs))) (frame_in u fs))
     go true e = now
     go false e = h u
 

@@ -3,7 +3,7 @@
 -- Assumes nothing.
 use mathlib.Core.Bool.{Bool, true, false, cond, ◌&&◌}
 use mathlib.Core.List.{List, [], ◌∷◌, ◌++◌, map}
-use mathlib.Core.Option.{Option, none, some}
+use Rattle.std.specs.Prelude.{Option, None, Some}
 use mathlib.Core.Path.{◌≡◌, refl, sym, ap, ◌∙◌, subst}
 use Prim.Native.Nat.{ℕ, ◌+◌, ◌-◌}
 use native.Mathlib.Omega.{arith}
@@ -95,7 +95,7 @@ quiet_holds true c x p fs h = rw (contents_holding 0 [] (count_discarded (x.outp
 quiet_holds false c x p fs h = ended_holds c h
 
 word_holds : (v : ℕ) (b : Bool) (c : Captured) (x : OutputState) (p : Pair) (fs : List Tale) → Counted x → Sound fs → Holds (contents x) p fs
-    → let a = complete (some v) c x in Holds (contents (output_of a.device)) p (story.story fs (word_event a.packed ++ cond b (story.ended ∷ []) []))
+    → let a = complete (Some v) c x in Holds (contents (output_of a.device)) p (story.story fs (word_event a.packed ++ cond b (story.ended ∷ []) []))
 unfolding complete after_word offer discard story.story story.tell
 word_holds v b c x p fs count s h =
     either
@@ -105,25 +105,25 @@ word_holds v b c x p fs count s h =
     (rw (contents_holding (x.output.held + 1) (push v (contents x)) (count_word x.output) (rw (length-append, count))) (ended_holds b (holds_held v s h)))
     (rw (contents_holding 0 [] (count_discarded ((count_word x.output).held + 1) (count_word x.output)) refl) (ended_holds b (holds_lost s h)))
 
-after_holds : (o : Option ℕ) (s : Capture) (c : Captured) (x : OutputState) (p : Pair) (fs : List Tale) → (c.error ≡ true → o ≡ none) → Counted x → Sound fs → Holds (contents x) p fs
+after_holds : (o : Option ℕ) (s : Capture) (c : Captured) (x : OutputState) (p : Pair) (fs : List Tale) → (c.error ≡ true → o ≡ None) → Counted x → Sound fs → Holds (contents x) p fs
     → let a = complete o c x in Holds (contents (output_of a.device)) p (story.story fs (word_event a.packed ++ frame_event s c))
 unfolding complete frame_event
-after_holds none s c x p fs alone count sound h = quiet_holds c.error (has_closed s c) x p fs h
-after_holds (some v) s c x p fs alone count sound h =
+after_holds None s c x p fs alone count sound h = quiet_holds c.error (has_closed s c) x p fs h
+after_holds (Some v) s c x p fs alone count sound h =
     subst
     (λ (rises : Bool).
-    let a = complete (some v) c x in
+    let a = complete (Some v) c x in
     Holds (contents (output_of a.device)) p (story.story fs (word_event a.packed ++ cond rises (story.discarded ∷ []) (cond (has_closed s c) (story.ended ∷ []) []))))
     (sym (no_error c.error v alone)) (word_holds v (has_closed s c) c x p fs count sound h)
   where
-    no_error : (rises : Bool) (v : ℕ) → (rises ≡ true → some v ≡ none) → rises ≡ false
+    no_error : (rises : Bool) (v : ℕ) → (rises ≡ true → Some v ≡ None) → rises ≡ false
     no_error false v e = refl
     no_error true v e = let n = e refl in let z : ◌≡◌ {A = ℕ} 0 1 = cc in absurd (omega arith)
 
 sound_landed : (o : Option ℕ) (fs : List Tale) → Sound fs → Sound (story.story fs (landing_event o))
 unfolding story.story story.tell
-sound_landed none fs s = s
-sound_landed (some byte) fs s = sound_landing fs s
+sound_landed None fs s = s
+sound_landed (Some byte) fs s = sound_landing fs s
 
 -- One sample.
 pub two_step_holds : (x : Two) (w : ℕ) (fs : List Tale) → Tells (kept_of x.device x.turns) fs → Holds (contents (output_of x.device)) x.buffers fs

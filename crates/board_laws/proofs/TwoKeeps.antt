@@ -2,7 +2,7 @@
 -- The idea: the sample's events do to the number of held words and to landed what the ledger says, and each event keeps tags and places within these numbers. Assumes nothing.
 use mathlib.Core.Bool.{Bool, true, false, cond, not, ◌&&◌}
 use mathlib.Core.List.{List, [], ◌∷◌, ◌++◌}
-use mathlib.Core.Option.{Option, none, some}
+use Rattle.std.specs.Prelude.{Option, None, Some}
 use mathlib.Core.Path.{◌≡◌, refl, sym, ap, ◌∙◌, subst}
 use Prim.Native.Nat.{ℕ, zero, suc, ◌+◌, ◌-◌, ◌/◌, ◌^◌, ◌≤◌, ◌<◌}
 use native.Mathlib.Numerals.{add-one}
@@ -19,7 +19,9 @@ use Rattle.buffers.specs.Turns as turn_rules
 use Rattle.buffers.specs.Turns.{is_b, with_turn, with_tags, with_place_b, with_latest, with_content, content, first_word, word_held, word_lost, oldest_buffer, oldest_opens, next_place, oldest_place, is_landing, frame_over, last_of_frame, word_landed, frame_ended}
 use Rattle.buffers.specs.Story as story
 use Rattle.buffers.specs.Kept.{Kept, landed_at, keep, keeps}
-use Rattle.output.specs.Output.{with_place, Packed, nothing, completed, lost}
+use Rattle.output.specs.Output.{with_place}
+use Rattle.output.specs.declared.Packing.{Packing as Packed}
+use Rattle.output.specs.declared.Packing.TheVariants.{Nothing as nothing, Completed as completed, Lost as lost}
 use Rattle.rules.specs.declared.Capture.{Capture}
 use Rattle.rules.specs.State.{capture_of, is_open}
 use Rattle.rules.specs.Sample.{capture_sample}
@@ -53,8 +55,8 @@ in_turn k s v o p =
 -- The number of held words: what the ledger's entries say of a sample, its events do.
 landing_held : (o : Option ℕ) (l : Ledger) (k : Kept) → k.held ≡ l.held → (keeps k (landing_event o)).held ≡ (landing_entry o l).held
 unfolding landing_entry keeps keep landed_at
-landing_held none l k e = e
-landing_held (some byte) l k e =
+landing_held None l k e = e
+landing_held (Some byte) l k e =
     by_cond (λ (x : Kept). x.held ≡ l.held - 1) (ltb 0 k.held) _ _
     (λ t. at_place (oldest_buffer k.turns) _ ∙ ap (λ h. h - 1) e)
     (λ t. omega (arith, e, ltb-false 0 k.held t))
@@ -169,15 +171,15 @@ oldest_at_most n place_a t a b = either (λ m. m ≤ n) (oldest_opens t) (omega 
     go A = a
     go B = b
 
-landed_within : (l : Ledger) (k : Kept) → Within l k → Within (landing_entry (some 0) l) (keep k story.landed)
+landed_within : (l : Ledger) (k : Kept) → Within l k → Within (landing_entry (Some 0) l) (keep k story.landed)
 unfolding landing_entry keep landed_at with_place_b
 landed_within l k w =
-    by_cond (λ (x : Kept). Within (landing_entry (some 0) l) x) (ltb 0 k.held) _ _
+    by_cond (λ (x : Kept). Within (landing_entry (Some 0) l) x) (ltb 0 k.held) _ _
     (λ t. lands (oldest_buffer k.turns) _ (landed_fits k.turns (ltb-true 0 k.held t) w.turns) (oldest_at_most _ _ k.turns w.place w.turns.place))
     (λ t. record { turns = more_landed w.turns; place = omega (arith, w.place) })
   where
     lands : (u : Buffer) (p : ℕ) → Fits (k.held - 1) l.landed (word_landed k.held k.turns) → p ≤ l.landed
-        → Within (landing_entry (some 0) l) (landed_at u p k)
+        → Within (landing_entry (Some 0) l) (landed_at u p k)
     lands A p f le = record { turns = more_landed f; place = omega arith }
     lands B p f le = let g = more_landed f in record { turns = record { buffers = g.buffers; opening = g.opening; place = omega arith }; place = omega (arith, w.place) }
 
@@ -191,8 +193,8 @@ ended_fits {h} {n} held t f =
 -- What the ledger's entries say of a sample, its events do.
 pub landing_within : (o : Option ℕ) (l : Ledger) (k : Kept) → Within l k → Within (landing_entry o l) (keeps k (landing_event o))
 unfolding landing_entry keeps
-landing_within none l k w = w
-landing_within (some byte) l k w = landed_within l k w
+landing_within None l k w = w
+landing_within (Some byte) l k w = landed_within l k w
 
 word_within : (p : Packed) (l : Ledger) (k : Kept) → Within l k → Within (word_entry p l) (keeps k (word_event p))
 unfolding word_entry keeps keep word_lost

@@ -1,11 +1,11 @@
 -- Every list of calls on a board made with a depth, in any order, over one memory or two (W2), each with whatever memories and starts it is lent. A refused call changes nothing. And
 -- what happened in such a list, in order, from the calls' answers and the capture rules: from that the frames are told (crate `buffers`, Story), without the state that is kept for them.
-use Rattle.std.specs.Prelude.{cond, List, [], ◌∷◌, ◌++◌, map, ℕ, ◌<◌, ◌^◌, eqb, drop}
-use Rattle.std.proofs.Math.Option.{Option, none, some}
+use Rattle.std.specs.Prelude.{cond, List, [], ◌∷◌, ◌++◌, map, ℕ, ◌<◌, ◌^◌, eqb, drop, Option, None, Some}
 use Rattle.buffers.specs.Story as story
 use Rattle.rules.specs.State.{capture_of}
 use Rattle.board_rules.specs.declared.Board.{Board}
-use Rattle.board_rules.specs.TwoBuffers.{sample_events, Two, Landing, two_step}
+use Rattle.board_rules.specs.TwoBuffers.{sample_events, Two, two_step}
+use Rattle.board_rules.specs.declared.Landing.{Landing}
 use Rattle.board_rules.specs.BoardCalls as board_calls
 use Rattle.board_rules.specs.BoardRuns as board_runs
 use Rattle.board_rules.specs.BoardRuns.{Both}
@@ -48,8 +48,8 @@ pub data Happening : Type 0 where
 
 -- The samples of a run over two memories.
 abbrev pub landing_byte : Option Landing → Option ℕ
-landing_byte none = none
-landing_byte (some l) = some l.byte
+landing_byte None = None
+landing_byte (Some l) = Some l.byte
 
 unfoldable pub two_samplings : Two → List ℕ → List device_histories.Event
 two_samplings x [] = []

@@ -1,6 +1,5 @@
 -- W2: lists of calls with one pair of memories and starts handed on, each call over the memories that the last one left; and what handing back has to answer after them, by the history alone.
-use Rattle.std.specs.Prelude.{cond, ◌||◌, List, [], ◌∷◌, ℕ, ◌*◌, ◌<◌, ◌^◌}
-use Rattle.std.proofs.Math.Option.{Option, none, some}
+use Rattle.std.specs.Prelude.{cond, ◌||◌, List, [], ◌∷◌, ℕ, ◌*◌, ◌<◌, ◌^◌, Option, None, Some}
 use Rattle.buffers.specs.Story.{Tale, completed}
 use Rattle.refusals.specs.Refusals.{Answer, refused, answered}
 use Rattle.board_rules.specs.declared.Board.{Board}
@@ -8,7 +7,8 @@ use Rattle.board_rules.specs.TwoBuffers.{Pair}
 use Rattle.board_rules.specs.BoardCalls.{fresh_of}
 use Rattle.board_rules.specs.BoardRuns as board_runs
 use Rattle.board_rules.specs.BoardRuns.{Both, beyond}
-use Rattle.board_rules.specs.HandingBack.{Handed, nothing, frame_in}
+use Rattle.board_rules.specs.declared.Handed.{Handed}
+use Rattle.board_rules.specs.declared.Handed.TheVariants.{Nothing as nothing, FrameIn as frame_in}
 use Rattle.board_laws.specs.BoardHistories as board_histories
 use Rattle.board_laws.specs.BoardHistories.{Call, after, reached, history, frames}
 
@@ -70,8 +70,8 @@ frames_after depth l qs = frames (history depth (calls (fresh_of depth) l qs))
 -- What handing back has to answer, the latest complete frame being given, if there is one: its buffer, and four bytes for each of its words; or that there is none. Refusal 9 where a start
 -- is above its memory's length. It says of no memory that it is too short.
 unfoldable pub frame_handed : Option Tale → Handed
-frame_handed none = nothing
-frame_handed (some f) = frame_in f.buffer (4 * completed f)
+frame_handed None = nothing
+frame_handed (Some f) = frame_in f.buffer (4 * completed f)
 
 unfoldable pub to_hand : Both → Option Tale → Answer Handed
 to_hand l o = cond (beyond l.a || beyond l.b) (refused 9) (answered (frame_handed o))

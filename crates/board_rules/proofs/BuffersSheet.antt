@@ -8,7 +8,7 @@
 --   board_judged  the boards that "malformed" judges
 use mathlib.Core.Bool.{Bool, true, false, cond}
 use mathlib.Core.List.{List, [], ◌∷◌, ◌++◌, map}
-use mathlib.Core.Option.{Option, none, some}
+use Rattle.std.specs.Prelude.{Option, None, Some}
 use mathlib.Core.Path.{◌≡◌, refl}
 use Prim.Native.Nat.{ℕ}
 use lib.Dec.{eqb}
@@ -20,7 +20,8 @@ use Rattle.buffers.specs.Turns as turn_rules
 use Rattle.buffers.specs.Turns.{fresh_turns, with_turn, with_tags, with_place_b}
 use Rattle.buffers.specs.Kept.{keep, keeps, landed_at}
 use Rattle.refusals.specs.Refusals as refusals
-use Rattle.output.specs.Output.{Packed, nothing, lost}
+use Rattle.output.specs.declared.Packing.{Packing as Packed}
+use Rattle.output.specs.declared.Packing.TheVariants.{Nothing as nothing, Lost as lost}
 use Rattle.rules.proofs.EveryRule.{every_rule}
 use Rattle.rules.proofs.BenchSheet.{CR, RIS, CWSIZE, edges, blank, line_gap, idle, words_are, no_slots}
 use Rattle.rules.proofs.CodesSheet.{ESCR, ESUR, FS, LS, FE}
@@ -28,12 +29,15 @@ use Rattle.board_rules.specs.declared.Mode.TheVariants.{One, Two}
 use Rattle.board_rules.specs.declared.Board.{Board}
 use Rattle.board_rules.specs.State.{bad_turns, malformed}
 use Rattle.board_rules.specs.Answers.{Changed}
-use Rattle.board_rules.specs.TwoBuffers.{Pair, Landing, frame_event, sample_events, two_step, two_steps}
+use Rattle.board_rules.specs.TwoBuffers.{Pair, frame_event, sample_events, two_step, two_steps}
+use Rattle.board_rules.specs.declared.Landing.{Landing}
 use Rattle.board_rules.specs.BoardCalls as calls
 use Rattle.board_rules.specs.BoardCalls.{fresh_of}
 use Rattle.board_rules.specs.BoardRuns as board_runs
 use Rattle.board_rules.specs.BoardRuns.{Both, one_refusal, two_refusal, turns_of}
 use Rattle.board_rules.specs.HandingBack as handing
+use Rattle.board_rules.specs.declared.Handed.TheVariants as handed_cases
+use Rattle.board_rules.specs.declared.Handed.{Handed}
 use Rattle.board_rules.specs.HandingBack.{hand_back, handed_part}
 
 -- Every rule of boards opened by one name.
@@ -106,10 +110,10 @@ looks b l said = record { said = said; board = b; memories = board_runs.memories
 abbrev pub changes : Both → Changed → Told
 changes l c = record { said = by_number c.number; board = c.board; memories = board_runs.memories l }
 
-abbrev pub hands : List ℕ → handing.Handed → Said
-hands bytes handing.nothing = no_frame
-hands bytes (handing.too_short u n) = too_short u n
-hands bytes (handing.frame_in u n) = frame u bytes
+abbrev pub hands : List ℕ → Handed → Said
+hands bytes handed_cases.Nothing = no_frame
+hands bytes (handed_cases.TooShort u n) = too_short u n
+hands bytes (handed_cases.FrameIn u n) = frame u bytes
 
 abbrev pub handing_told : Board → Both → Both → Told
 handing_told b l other = looks b l (by_answer (hands (handed_part (hand_back b other) other)) (hand_back b other))
@@ -118,8 +122,8 @@ abbrev pub one_told : Both → board_runs.OneRun → Told
 one_told l r = record { said = by_number r.number; board = r.board; memories = record { a = r.memory; b = l.b.memory } }
 
 abbrev pub landing_byte : Option ℕ → ℕ
-landing_byte none = 0
-landing_byte (some byte) = byte
+landing_byte None = 0
+landing_byte (Some byte) = byte
 
 abbrev pub sample_told : Both → board_runs.OneSample → Told
 sample_told l r =
@@ -175,7 +179,7 @@ abbrev pub granting : Option Landing → Entry
 granting l = a_sample 0x2C000 ▸ sampled l nothing
 
 abbrev pub lands : Buffer → ℕ → Entry
-lands u byte = granting (some (record { buffer = u; byte = byte }))
+lands u byte = granting (Some (record { buffer = u; byte = byte }))
 
 -- The bytes of a word of two pixels.
 abbrev pub pixels : ℕ → ℕ → List ℕ
@@ -215,13 +219,13 @@ in_turn =
     handed ▸ frame A (pixels 1 2) ∷
     lands B 4 ∷
     handed ▸ frame B (pixels 3 4) ∷
-    granting none ∷
+    granting None ∷
     []) ∷
     -- "The first word a frame completes": also if it is lost. At depth 1 the second frame's is, and the third goes to A
     two 1 usual
     (feed (blank ∷ 1 ∷ 2 ∷ blank ∷ 3 ∷ []) ∷
     a_run (4 ∷ []) ▸ done ∷
-    a_sample 0x10004 ▸ sampled none lost ∷
+    a_sample 0x10004 ▸ sampled None lost ∷
     a_read RIS ▸ reads 0x1B ∷
     feed (blank ∷ 5 ∷ 6 ∷ []) ∷
     lands A 0 ∷
@@ -232,8 +236,8 @@ in_turn =
     two 4 (lending 12 0 4 4)
     (feed (blank ∷ 1 ∷ 2 ∷ blank ∷ 3 ∷ 4 ∷ blank ∷ 5 ∷ 6 ∷ []) ∷
     lands A 0 ∷
-    granting none ∷
-    granting none ∷
+    granting None ∷
+    granting None ∷
     the_memories ▸ hold (pixels 1 2 ++ replicate 8 0xAA) (replicate 4 0xBB) ∷
     []) ∷
     -- "That memory is too short": the latest frame's; an older one that would fit is not handed back
@@ -259,7 +263,7 @@ in_turn =
     (feed (blank ∷ 1 ∷ 2 ∷ []) ∷
     a_run (blank ∷ []) ▸ done ∷
     handed ▸ no_frame ∷
-    a_sample 0x3C000 ▸ sampled (some (record { buffer = A; byte = 0 })) nothing ∷
+    a_sample 0x3C000 ▸ sampled (Some (record { buffer = A; byte = 0 })) nothing ∷
     handed ▸ frame A (pixels 1 2) ∷
     []) ∷
     -- handing back is accepted enabled, in a frame and disabled; disabling ends no completeness
@@ -323,14 +327,14 @@ by_codes =
     lands A 0 ∷
     feed LS ∷
     a_read RIS ▸ reads 0x1D ∷
-    granting none ∷
+    granting None ∷
     handed ▸ no_frame ∷
     []) ∷
     -- or the word that opens it, with which its turn has passed: the next frame goes to B
     two_coded 4
     (feed (FS ++ 1 ∷ 2 ∷ 3 ∷ 4 ∷ FE) ∷
     feed LS ∷
-    granting none ∷
+    granting None ∷
     handed ▸ no_frame ∷
     feed (FS ++ 5 ∷ 6 ∷ 7 ∷ 8 ∷ FE) ∷
     lands B 4 ∷
@@ -407,7 +411,7 @@ not_complete =
     lands B 4 ∷
     []) ∷
     -- W4: a padded word that is lost at the frame's end; one that is held
-    two_with 1 0x40E9 (feed (blank ∷ 1 ∷ 2 ∷ 3 ∷ 4 ∷ 5 ∷ blank ∷ []) ∷ granting none ∷ handed ▸ no_frame ∷ []) ∷
+    two_with 1 0x40E9 (feed (blank ∷ 1 ∷ 2 ∷ 3 ∷ 4 ∷ 5 ∷ blank ∷ []) ∷ granting None ∷ handed ▸ no_frame ∷ []) ∷
     two_with 2 0x40E9
     (feed (blank ∷ 1 ∷ 2 ∷ 3 ∷ 4 ∷ 5 ∷ blank ∷ []) ∷
     lands A 0 ∷
@@ -421,7 +425,7 @@ not_complete =
     lands A 0 ∷
     feed (5 ∷ 6 ∷ 7 ∷ 8 ∷ blank ∷ []) ∷
     a_read RIS ▸ reads 0x1B ∷
-    granting none ∷
+    granting None ∷
     handed ▸ no_frame ∷
     []) ∷
     -- or to disabling; the next frame is handed back
@@ -518,7 +522,7 @@ mode_refusals =
     log (record { device = idle (words_are no_slots 0 0 4294967294 0 0 0); mode = Two fresh_turns }) usual
     (a_run (0 ∷ 0 ∷ []) ▸ refused 8 ∷
     a_run (0 ∷ 0x40000 ∷ []) ▸ refused 7 ∷
-    a_sample 0 ▸ sampled none nothing ∷
+    a_sample 0 ▸ sampled None nothing ∷
     a_sample 0 ▸ refused 8 ∷
     a_run [] ▸ done ∷
     []) ∷

@@ -1,6 +1,5 @@
 -- Runs and single samples of a board (W2): over one memory in mode one, over two in mode two. "Memories not matching the mode is 16, after 1."
-use Rattle.std.specs.Prelude.{Bool, cond, not, ◌||◌, List, [], ◌∷◌, ◌++◌, ℕ, ◌+◌, eqb, ltb, length, take, drop}
-use Rattle.std.proofs.Math.Option.{Option, none, some}
+use Rattle.std.specs.Prelude.{Bool, cond, not, ◌||◌, List, [], ◌∷◌, ◌++◌, ℕ, ◌+◌, eqb, ltb, length, take, drop, Option, None, Some}
 use Rattle.buffers.specs.declared.Buffer.{Buffer}
 use Rattle.buffers.specs.declared.Buffer.TheVariants.{A, B}
 use Rattle.buffers.specs.declared.Turns.{Turns}
@@ -8,14 +7,18 @@ use Rattle.buffers.specs.Turns.{fresh_turns}
 use Rattle.refusals.specs.Refusals.{◌⇒◌, first, Answer, answer}
 use Rattle.run_refusals.specs.RunRefusals.{run_tests}
 use Rattle.output.specs.Output as output_rules
-use Rattle.output.specs.Output.{Packed, SampleAnswer}
+use Rattle.output.specs.declared.Packing.{Packing as Packed}
+use Rattle.output.specs.declared.SampleAnswer.{SampleAnswer}
 use Rattle.rules.specs.Run as run_rules
 use Rattle.board_rules.specs.declared.Mode.{Mode}
 use Rattle.board_rules.specs.declared.Mode.TheVariants.{One, Two}
 use Rattle.board_rules.specs.declared.Board.{Board}
 use Rattle.board_rules.specs.State.{is_two, malformed}
 use Rattle.board_rules.specs.TwoBuffers as buffer_rules
-use Rattle.board_rules.specs.TwoBuffers.{Pair, Landing, two_step, two_steps}
+use Rattle.board_rules.specs.TwoBuffers.{Pair, two_step, two_steps}
+use Rattle.board_rules.specs.declared.Landing.{Landing}
+-- One sample's answers: the landing's buffer and its byte in that memory.
+use Rattle.board_rules.specs.declared.TwoAnswer.{TwoAnswer}
 
 -- Over one memory: refusals 1, 16, 9, 7, 8.
 unfoldable pub one_refusal : Board → List ℕ → ℕ → List ℕ → ℕ
@@ -120,14 +123,10 @@ run_two b l samples =
       memories = cond (eqb number 0) (filled l x.buffers) (memories l);
     }
 
--- One sample's answers: the landing's buffer and its byte in that memory.
-pub record TwoAnswer : Type 0 where
-  pub landing : Option Landing
-  pub packed : Packed
-
+-- A landing's byte in its memory.
 unfoldable pub in_memory : Both → Option Landing → Option Landing
-in_memory l none = none
-in_memory l (some x) = some (record { buffer = x.buffer; byte = (lent x.buffer l).start + x.byte })
+in_memory l None = None
+in_memory l (Some x) = Some (record { buffer = x.buffer; byte = (lent x.buffer l).start + x.byte })
 
 pub record TwoSample : Type 0 where
   pub answer : Answer TwoAnswer

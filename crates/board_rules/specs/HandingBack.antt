@@ -1,6 +1,5 @@
 -- W2: "lent the runs' memories and starts, a call hands back the part of A or B that holds the latest complete frame, and says which if there is none or that memory is too short".
-use Rattle.std.specs.Prelude.{Bool, cond, not, ◌||◌, List, [], ◌∷◌, ℕ, ◌-◌, ◌*◌, ltb, length, take}
-use Rattle.std.proofs.Math.Option.{Option, none, some}
+use Rattle.std.specs.Prelude.{Bool, cond, not, ◌||◌, List, [], ◌∷◌, ℕ, ◌-◌, ◌*◌, ltb, length, take, Option, None, Some}
 use Rattle.buffers.specs.declared.Buffer.{Buffer}
 use Rattle.buffers.specs.declared.Buffer.TheVariants.{A, B}
 use Rattle.buffers.specs.declared.Turns.{Turns}
@@ -11,12 +10,9 @@ use Rattle.rules.specs.declared.Device.{Device}
 use Rattle.board_rules.specs.declared.Board.{Board}
 use Rattle.board_rules.specs.State.{is_two, kept_of, malformed}
 use Rattle.board_rules.specs.BoardRuns.{Lent, Both, lent, frame_buffer, turns_of}
-
 -- No frame is complete; or the latest is in a buffer, with so many bytes, four for each of its words, from that memory's start on; or that buffer's memory is too short for so many.
-pub data Handed : Type 0 where
-  nothing : Handed
-  too_short : Buffer → ℕ → Handed
-  frame_in : Buffer → ℕ → Handed
+use Rattle.board_rules.specs.declared.Handed.{Handed}
+use Rattle.board_rules.specs.declared.Handed.TheVariants.{Nothing as nothing, TooShort as too_short, FrameIn as frame_in}
 
 -- Of the memories only their lengths and starts count.
 pub record Span : Type 0 where
@@ -49,8 +45,8 @@ unfoldable pub handed_from : Buffer → ℕ → Span → Handed
 handed_from u bytes s = cond (ltb (s.length - s.start) bytes) (too_short u bytes) (frame_in u bytes)
 
 unfoldable pub handed_latest : Option Buffer → Device → Turns → Spans → Handed
-handed_latest none d t s = nothing
-handed_latest (some u) d t s = handed_from u (4 * place_in u (kept_of d t)) (span_of u s)
+handed_latest None d t s = nothing
+handed_latest (Some u) d t s = handed_from u (4 * place_in u (kept_of d t)) (span_of u s)
 
 unfoldable pub latest_frame : Board → Spans → Answer Handed
 latest_frame b s =

@@ -1,6 +1,5 @@
 -- One sample with two frame buffers (W2; 004, 32.3.6): the nine rules as they are, over the buffer of the oldest held word and at its place; then what the sample's events do to the turns.
-use Rattle.std.specs.Prelude.{Bool, cond, not, ◌&&◌, List, [], ◌∷◌, ◌++◌, ℕ}
-use Rattle.std.proofs.Math.Option.{Option, none, some}
+use Rattle.std.specs.Prelude.{Bool, cond, not, ◌&&◌, List, [], ◌∷◌, ◌++◌, ℕ, Option, None, Some}
 use Rattle.buffers.specs.declared.Buffer.{Buffer}
 use Rattle.buffers.specs.declared.Buffer.TheVariants.{A, B}
 use Rattle.buffers.specs.declared.Turns.{Turns}
@@ -13,8 +12,10 @@ use Rattle.rules.specs.State.{capture_of, is_open}
 use Rattle.rules.specs.Capture.{Captured}
 use Rattle.rules.specs.Sample.{capture_sample}
 use Rattle.rules.specs.RegisterCalls.{placed}
-use Rattle.output.specs.Output.{Packed, nothing, completed, lost}
+use Rattle.output.specs.declared.Packing.{Packing as Packed}
+use Rattle.output.specs.declared.Packing.TheVariants.{Nothing as nothing, Completed as completed, Lost as lost}
 use Rattle.rules.specs.Run.{step}
+use Rattle.board_rules.specs.declared.Landing.{Landing}
 use Rattle.board_rules.specs.State.{kept_of}
 
 -- Two frame buffers, or memories; one of them, and with one changed.
@@ -33,8 +34,8 @@ with_part B m p = record { a = p.a; b = m }
 -- What a sample's answers and the capture rules say of the frames: a word landed (rule 1); one was completed, and is held or lost (rule 9); ERR discarded the held words (W6), or rule 4 ended
 -- the frame, which was open and is closed. A padded word comes before the end (W4); if it is lost the frame is gone already, and the end tells nothing more.
 abbrev pub landing_event : Option ℕ → List story.Event
-landing_event none = []
-landing_event (some byte) = story.landed ∷ []
+landing_event None = []
+landing_event (Some byte) = story.landed ∷ []
 
 abbrev pub word_event : Packed → List story.Event
 word_event nothing = []
@@ -57,13 +58,9 @@ pub record Two : Type 0 where
   pub buffers : Pair
 
 -- "A landing names A or B": the buffer, and the byte of it.
-pub record Landing : Type 0 where
-  pub buffer : Buffer
-  pub byte : ℕ
-
 abbrev pub landing_in : Buffer → Option ℕ → Option Landing
-landing_in u none = none
-landing_in u (some byte) = some (record { buffer = u; byte = byte })
+landing_in u None = None
+landing_in u (Some byte) = Some (record { buffer = u; byte = byte })
 
 -- What a sample makes of them, with its two answers.
 pub record TwoStepped : Type 0 where

@@ -3,17 +3,18 @@
 #![tactic(auto)]
 
 ghost use Rattle.std.specs.Prelude.{◌≡◌, drop, take};
-ghost use Rattle.board_rules.specs.declared.Mode.TheVariants.{Two};
 ghost use Rattle.image_rules.specs.Image.{image_words};
 ghost use Rattle.image_rules.specs.BoardImage as board_image;
 
 use board_rules::{Board, Mode};
 use buffers::{Buffer, Content, Turns};
-use device_words::{WORDS, flag, put};
+use device_words::{WORDS, put};
 
 // How many words there are.
 pub const BOARD_WORDS: usize = WORDS + 9;
 
+// The numbers are those of include/dcmi.h, whatever the order of the variants: so each is written out, and none is made by `as`. The types are of the crates below: so these are
+// functions, and no `From` or `TryFrom`.
 fn buffer_word(u: Buffer) -> u32
     ensures { result ≡ board_image.buffer_word u }
 {
@@ -33,37 +34,23 @@ fn content_word(c: Content) -> u32
     }
 }
 
-fn turns_words(t: Turns) -> [u32; 9]
-    ensures { result ≡ board_image.mode_words (Two t) }
-{
-    let turn = t.turn;
-    let a = t.a;
-    let b = t.b;
-    let latest = t.latest;
-    let turn_word = buffer_word(turn);
-    let begun = flag(t.begun);
-    let a_word = content_word(a);
-    let b_word = content_word(b);
-    let latest_word = buffer_word(latest);
-    [
-        1,
-        t.place,
-        t.in_b,
-        t.opening,
-        turn_word,
-        begun,
-        a_word,
-        b_word,
-        latest_word,
-    ]
-}
-
+// The words of the mode.
 fn mode_words(m: Mode) -> [u32; 9]
     ensures { result ≡ board_image.mode_words m }
 {
     match m {
-        Mode::One => [0, 0, 0, 0, 0, 0, 0, 0, 0],
-        Mode::Two(turns) => turns_words(turns),
+        Mode::One => [0; 9],
+        Mode::Two(t) => [
+            1,
+            t.place,
+            t.in_b,
+            t.opening,
+            buffer_word(t.turn),
+            u32::from(t.begun),
+            content_word(t.a),
+            content_word(t.b),
+            buffer_word(t.latest),
+        ],
     }
 }
 
@@ -71,161 +58,100 @@ fn mode_words(m: Mode) -> [u32; 9]
 pub fn image_of(b: Board) -> [u32; BOARD_WORDS]
     ensures { result ≡ board_image.image_of b }
 {
-    let mode = b.mode;
-    let device = device_words::image_of(b.device);
-    let behind = mode_words(mode);
     let mut words = [0; BOARD_WORDS];
-    put(&mut words, 0, &device);
-    put(&mut words, WORDS, &behind);
+    put(&mut words, 0, &device_words::image_of(b.device));
+    put(&mut words, WORDS, &mode_words(b.mode));
     words
 }
 
-fn zeros_encode(a: u32, b: u32, c: u32, d: u32, e: u32, f: u32, g: u32, h: u32) -> bool
-    ensures { result ≡ board_image.zeros_encode a b c d e f g h }
+// Whether nine words encode a mode: mode one has only zeros; in mode two buffers and `begun` are 0 or 1, what is known of the frames is at most 2.
+#[tactic(auto, unfolding(image_rules::specs::BoardImage::mode_encodes, image_rules::specs::BoardImage::zeros_encode, image_rules::specs::BoardImage::turns_encode))]
+fn mode_encodes(words: [u32; 9]) -> bool
+    ensures { result ≡ board_image.mode_encodes words }
 {
-    if a != 0 {
-        return false;
-    }
-    if b != 0 {
-        return false;
-    }
-    if c != 0 {
-        return false;
-    }
-    if d != 0 {
-        return false;
-    }
-    if e != 0 {
-        return false;
-    }
-    if f != 0 {
-        return false;
-    }
-    if g != 0 {
-        return false;
-    }
-    h == 0
+    matches!(
+        words,
+        [0, 0, 0, 0, 0, 0, 0, 0, 0] | [1, _, _, _, 0..=1, 0..=1, 0..=2, 0..=2, 0..=1]
+    )
 }
 
-fn turns_encode(turn: u32, begun: u32, a: u32, b: u32, latest: u32) -> bool
-    ensures { result ≡ board_image.turns_encode turn begun a b latest }
-{
-    if 1 < turn {
-        return false;
-    }
-    if 1 < begun {
-        return false;
-    }
-    if 2 < a {
-        return false;
-    }
-    if 2 < b {
-        return false;
-    }
-    latest <= 1
-}
-
-// Whether the words behind the device's encode a mode.
-fn mode_encodes(w: [u32; BOARD_WORDS]) -> bool
-    ensures { result ≡ board_image.mode_encodes (drop image_words w) }
-{
-    if w[WORDS] == 0 {
-        return zeros_encode(
-            w[WORDS + 1],
-            w[WORDS + 2],
-            w[WORDS + 3],
-            w[WORDS + 4],
-            w[WORDS + 5],
-            w[WORDS + 6],
-            w[WORDS + 7],
-            w[WORDS + 8],
-        );
-    }
-    if w[WORDS] == 1 {
-        return turns_encode(
-            w[WORDS + 4],
-            w[WORDS + 5],
-            w[WORDS + 6],
-            w[WORDS + 7],
-            w[WORDS + 8],
-        );
-    }
-    false
-}
-
-// The words of the device.
+// The words of the device, and those of the mode. One function of any size would take the place too, and a bound on both: no plainer.
 fn device_part(w: [u32; BOARD_WORDS]) -> [u32; WORDS]
     ensures { result ≡ take image_words w }
 {
     let mut device = [0; WORDS];
-    put(&mut device, 0, &w[0..WORDS]);
+    put(&mut device, 0, &w[..WORDS]);
     device
+}
+
+fn mode_part(w: [u32; BOARD_WORDS]) -> [u32; 9]
+    ensures { result ≡ drop image_words w }
+{
+    let mut mode = [0; 9];
+    put(&mut mode, 0, &w[WORDS..]);
+    mode
 }
 
 // Whether an image encodes a board.
 pub fn encodes(w: [u32; BOARD_WORDS]) -> bool
     ensures { result ≡ board_image.encodes w }
 {
-    if device_words::encodes(device_part(w)) {
-        return mode_encodes(w);
-    }
-    false
+    device_words::encodes(device_part(w)) && mode_encodes(mode_part(w))
 }
 
+#[tactic(auto, unfolding(image_rules::specs::BoardImage::buffer_of))]
 fn buffer_of(x: u32) -> Buffer
     ensures { result ≡ board_image.buffer_of x }
 {
-    if x == 0 {
-        return Buffer::A;
+    match x {
+        0 => Buffer::A,
+        _ => Buffer::B,
     }
-    Buffer::B
 }
 
+#[tactic(auto, unfolding(image_rules::specs::BoardImage::content_of))]
 fn content_of(x: u32) -> Content
     ensures { result ≡ board_image.content_of x }
 {
-    if x == 0 {
-        return Content::Nothing;
+    match x {
+        0 => Content::Nothing,
+        1 => Content::Landing,
+        _ => Content::Complete,
     }
-    if x == 1 {
-        return Content::Landing;
-    }
-    Content::Complete
 }
 
-fn turns_of(w: [u32; BOARD_WORDS]) -> Turns
-    ensures { result ≡ board_image.turns_of (drop image_words w) }
+fn turns_of(words: [u32; 9]) -> Turns
+    ensures { result ≡ board_image.turns_of words }
 {
-    let turn = buffer_of(w[WORDS + 4]);
-    let a = content_of(w[WORDS + 6]);
-    let b = content_of(w[WORDS + 7]);
-    let latest = buffer_of(w[WORDS + 8]);
+    let [_, place, in_b, opening, turn, begun, a, b, latest] = words;
     Turns {
-        place: w[WORDS + 1],
-        in_b: w[WORDS + 2],
-        opening: w[WORDS + 3],
-        turn,
-        begun: w[WORDS + 5] == 1,
-        a,
-        b,
-        latest,
+        place,
+        in_b,
+        opening,
+        turn: buffer_of(turn),
+        begun: begun == 1,
+        a: content_of(a),
+        b: content_of(b),
+        latest: buffer_of(latest),
     }
 }
 
-fn mode_of(w: [u32; BOARD_WORDS]) -> Mode
-    ensures { result ≡ board_image.mode_of (drop image_words w) }
+#[tactic(auto, unfolding(image_rules::specs::BoardImage::mode_of))]
+fn mode_of(words: [u32; 9]) -> Mode
+    ensures { result ≡ board_image.mode_of words }
 {
-    if w[WORDS] == 0 {
-        return Mode::One;
+    match words {
+        [0, ..] => Mode::One,
+        _ => Mode::Two(turns_of(words)),
     }
-    Mode::Two(turns_of(w))
 }
 
 // The board of an image.
 pub fn board_of(w: [u32; BOARD_WORDS]) -> Board
     ensures { result ≡ board_image.board_of w }
 {
-    let device = device_words::device_of(device_part(w));
-    let mode = mode_of(w);
-    Board { device, mode }
+    Board {
+        device: device_words::device_of(device_part(w)),
+        mode: mode_of(mode_part(w)),
+    }
 }

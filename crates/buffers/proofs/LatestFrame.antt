@@ -3,7 +3,7 @@
 -- (`Leads`); and if it is not, only the frame in the other buffer can be. Assumes nothing.
 use mathlib.Core.Bool.{Bool, true, false, cond, not, ◌&&◌, ◌||◌, true≢false, false≢true}
 use mathlib.Core.List.{List, [], ◌∷◌, map}
-use mathlib.Core.Option.{Option, none, some}
+use Rattle.std.specs.Prelude.{Option, None, Some}
 use mathlib.Core.Path.{◌≡◌, refl, sym, ap, ◌∙◌, subst}
 use Prim.Native.Nat.{ℕ, suc, ◌+◌, ◌-◌, ◌/◌, ◌≤◌}
 use native.Mathlib.Omega.{arith}
@@ -81,32 +81,32 @@ complete_sight f c = complete_state f.since f.landed (completed f) f.ended c.rec
 abbrev knows : Buffer → List Tale → Bool
 knows u fs = is_complete (sight_in u fs).content
 
-buffer_reads : (u : Buffer) (fs : List Tale) → Sound fs → which (complete_in u fs) ≡ cond (knows u fs) (some u) none
+buffer_reads : (u : Buffer) (fs : List Tale) → Sound fs → which (complete_in u fs) ≡ cond (knows u fs) (Some u) None
 unfolding complete_in frame_in if_complete which
 buffer_reads u [] s = refl
 buffer_reads u (f ∷ fs) s = go (same_buffer u f.buffer) (ltb 0 f.landed) refl (buffer_reads u fs s.3)
   where
-    known : (b : Bool) → which (cond b (some f) none) ≡ cond b (some f.buffer) none
+    known : (b : Bool) → which (cond b (Some f) None) ≡ cond b (Some f.buffer) None
     known true = refl
     known false = refl
 
-    go : (b c : Bool) → same_buffer u f.buffer ≡ b → which (if_complete (frame_in u fs)) ≡ cond (knows u fs) (some u) none
-        → let o = cond (b && c) (some f) (frame_in u fs) in
-        which (if_complete o) ≡ cond (is_complete (sight_of o).content) (some u) none
+    go : (b c : Bool) → same_buffer u f.buffer ≡ b → which (if_complete (frame_in u fs)) ≡ cond (knows u fs) (Some u) None
+        → let o = cond (b && c) (Some f) (frame_in u fs) in
+        which (if_complete o) ≡ cond (is_complete (sight_of o).content) (Some u) None
     go true true e rest = rw (complete_sight f s.0, same_is u f.buffer e) (known (complete f))
     go true false e rest = rest
     go false c e rest = rest
 
 -- The history's answer, by what is known of the buffer of the newest, and of the other.
 abbrev chosen : Buffer → Bool → Bool → Option Buffer
-chosen u one else = cond one (some u) (cond else (some (other u)) none)
+chosen u one else = cond one (Some u) (cond else (Some (other u)) None)
 
 latest_reads : (fs : List Tale) → Sound fs → which (latest_in fs) ≡ chosen (newest fs) (knows (newest fs) fs) (knows (other (newest fs)) fs)
 unfolding newest latest_in frame_in which
 latest_reads [] s = refl
 latest_reads (f ∷ fs) s = go (ltb 0 f.landed) refl (latest_reads fs s.3)
   where
-    known : (b : Bool) → which (cond b (some f) (complete_in (other f.buffer) fs)) ≡ cond b (some f.buffer) (which (complete_in (other f.buffer) fs))
+    known : (b : Bool) → which (cond b (Some f) (complete_in (other f.buffer) fs)) ≡ cond b (Some f.buffer) (which (complete_in (other f.buffer) fs))
     known true = unfold which in refl
     known false = refl
 
@@ -116,11 +116,11 @@ latest_reads (f ∷ fs) s = go (ltb 0 f.landed) refl (latest_reads fs s.3)
 
     go : (b : Bool) → ltb 0 f.landed ≡ b → which (latest_in fs) ≡ chosen (newest fs) (knows (newest fs) fs) (knows (other (newest fs)) fs)
         → let u = cond b f.buffer (newest fs) in
-        which (cond b (cond (complete f) (some f) (complete_in (other f.buffer) fs)) (latest_in fs))
+        which (cond b (cond (complete f) (Some f) (complete_in (other f.buffer) fs)) (latest_in fs))
         ≡ chosen u (knows u (f ∷ fs)) (knows (other u) (f ∷ fs))
     go true e rest =
         rw (e, same_same f.buffer, not_other f.buffer, complete_sight f s.0)
-        (known (complete f) ∙ ap (λ (o : Option Buffer). cond (complete f) (some f.buffer) o) (buffer_reads (other f.buffer) fs s.3))
+        (known (complete f) ∙ ap (λ (o : Option Buffer). cond (complete f) (Some f.buffer) o) (buffer_reads (other f.buffer) fs s.3))
     go false e rest =
         let z : f.landed ≡ 0 = omega (arith, ltb-false 0 f.landed e) in
         rw (skip (newest fs) f fs z, skip (other (newest fs)) f fs z) rest
@@ -297,7 +297,7 @@ unfolding frame_in
 latest_is_history es = all_answer start [] es tells_start (λ e. absurd (false≢true e))
 
 -- Both are complete, and B the latest; then a word is lost, whose turn was A's, and the first word of the next frame lands in B: A is the latest again.
-pub latest_cases : (latest_complete (keeps start (held 7 ∷ landed ∷ ended ∷ held 7 ∷ landed ∷ ended ∷ [])).turns ≡ some B)
-    × (latest_complete (keeps start (held 7 ∷ landed ∷ ended ∷ held 7 ∷ landed ∷ ended ∷ lost ∷ held 7 ∷ landed ∷ [])).turns ≡ some A)
+pub latest_cases : (latest_complete (keeps start (held 7 ∷ landed ∷ ended ∷ held 7 ∷ landed ∷ ended ∷ [])).turns ≡ Some B)
+    × (latest_complete (keeps start (held 7 ∷ landed ∷ ended ∷ held 7 ∷ landed ∷ ended ∷ lost ∷ held 7 ∷ landed ∷ [])).turns ≡ Some A)
 unfolding start fresh_turns keeps keep latest_complete frame_ended with_turn landed_at oldest_buffer word_held word_lost with_tags first_word word_landed last_of_frame oldest_opens with_content frame_over with_latest oldest_place with_place_b rules.discarded
 latest_cases = (refl, refl)

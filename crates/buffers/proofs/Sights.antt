@@ -2,7 +2,7 @@
 -- words (`read_off`). The idea: while a frame waits no newer one is in a buffer, so a landing puts it there. Assumes nothing.
 use mathlib.Core.Bool.{Bool, true, false, cond, not, ◌&&◌, ◌||◌, false≢true}
 use mathlib.Core.List.{List, [], ◌∷◌, map}
-use mathlib.Core.Option.{Option, none, some}
+use Rattle.std.specs.Prelude.{Option, None, Some}
 use mathlib.Core.Path.{◌≡◌, refl, sym, ap, ◌∙◌}
 use Prim.Native.Nat.{ℕ, ◌+◌, ◌≤◌, ◌<◌}
 use native.Mathlib.Omega.{arith}
@@ -30,8 +30,8 @@ abbrev pub sight : Tale → Sight
 sight f = record { content = state f.since f.landed (completed f) f.ended; place = f.since }
 
 abbrev pub sight_of : Option Tale → Sight
-sight_of none = record { content = Nothing; place = 0 }
-sight_of (some f) = sight f
+sight_of None = record { content = Nothing; place = 0 }
+sight_of (Some f) = sight f
 
 abbrev pub sight_in : Buffer → List Tale → Sight
 sight_in u fs = sight_of (frame_in u fs)
@@ -51,7 +51,7 @@ sight_word u vs [] = ap sight_of (skip u (first_of vs A) [] refl)
 sight_word u vs (f ∷ fs) =
     by_cond (λ (l : List Tale). sight_in u l ≡ sight_in u (f ∷ fs)) (running f) _ _ (λ e. go (is_in u f) (is_open f e).0) (λ e. ap sight_of (skip u (first_of vs (other f.buffer)) (f ∷ fs) refl))
   where
-    go : (c : Bool) → f.ended ≡ false → sight_of (cond c (some (one_more vs f)) (frame_in u fs)) ≡ sight_of (cond c (some f) (frame_in u fs))
+    go : (c : Bool) → f.ended ≡ false → sight_of (cond c (Some (one_more vs f)) (frame_in u fs)) ≡ sight_of (cond c (Some f) (frame_in u fs))
     go true e = rw e
     go false e = refl
 
@@ -62,7 +62,7 @@ sight_closed u [] = refl
 sight_closed u (f ∷ fs) = go (is_in u f) (sight_closed u fs)
   where
     go : (b : Bool) → sight_in u (map closed_otherwise fs) ≡ sight_in u fs
-        → sight_of (cond b (some (closed_otherwise f)) (frame_in u (map closed_otherwise fs))) ≡ sight_of (cond b (some f) (frame_in u fs))
+        → sight_of (cond b (Some (closed_otherwise f)) (frame_in u (map closed_otherwise fs))) ≡ sight_of (cond b (Some f) (frame_in u fs))
     go true e = refl
     go false e = e
 
@@ -71,7 +71,7 @@ pub sight_armed : (u : Buffer) (fs : List Tale) → sight_in u (map armed_anew f
 unfolding frame_in
 sight_armed u [] = refl
 sight_armed u (f ∷ fs) =
-    by_cond (λ (o : Option Tale). sight_of o ≡ record { content = Nothing; place = 0 }) (is_in u f) (some (armed_anew f)) (frame_in u (map armed_anew fs))
+    by_cond (λ (o : Option Tale). sight_of o ≡ record { content = Nothing; place = 0 }) (is_in u f) (Some (armed_anew f)) (frame_in u (map armed_anew fs))
     (λ e. rw (ne_eqb 0 f.landed (λ z. omega (arith, ltb-true 0 f.landed (and_true (same_buffer u f.buffer) (ltb 0 f.landed) e).1))))
     (λ e. sight_armed u fs)
 
@@ -102,7 +102,7 @@ sight_end_held u [] s w = refl
 sight_end_held u (f ∷ fs) s w =
     by_cond (λ (l : List Tale). sight_in u l ≡ sight_in u (f ∷ fs)) (running f) _ _ (λ e. go (is_in u f) (open_waits f fs s e w)) (λ e. refl)
   where
-    go : (c : Bool) → f.landed < completed f → sight_of (cond c (some (by_rule_4 f)) (frame_in u fs)) ≡ sight_of (cond c (some f) (frame_in u fs))
+    go : (c : Bool) → f.landed < completed f → sight_of (cond c (Some (by_rule_4 f)) (frame_in u fs)) ≡ sight_of (cond c (Some f) (frame_in u fs))
     go true less = rw (ne_eqb f.landed (completed f) (λ z. omega arith), and_zero f.ended)
     go false less = refl
 
@@ -122,8 +122,8 @@ sight_end_over u (f ∷ fs) s e w = rw e (go (same_buffer u f.buffer) (eqb f.sin
     all : f.landed ≡ completed f
     all = open_landed f fs s e w
 
-    go : (b c : Bool) → sight_of (cond (b && ltb 0 f.landed) (some (by_rule_4 f)) (frame_in u fs))
-        ≡ cond b (ended_sight (sight_of (cond (b && ltb 0 f.landed) (some f) (frame_in u fs)))) (sight_of (cond (b && ltb 0 f.landed) (some f) (frame_in u fs)))
+    go : (b c : Bool) → sight_of (cond (b && ltb 0 f.landed) (Some (by_rule_4 f)) (frame_in u fs))
+        ≡ cond b (ended_sight (sight_of (cond (b && ltb 0 f.landed) (Some f) (frame_in u fs)))) (sight_of (cond (b && ltb 0 f.landed) (Some f) (frame_in u fs)))
     go true c = let p = s.0.filled (is_open f e).1 in rw (lt-ltb 0 f.landed (omega (arith, all)), eq-eqb f.landed (completed f) all, (is_open f e).0) (by (eqb f.since f.landed))
       where
         by : (b : Bool) → ◌≡◌ {A = Sight} (record { content = cond b Complete Nothing; place = f.since }) (record { content = ended_content (cond b Landing Nothing); place = f.since })
@@ -133,20 +133,20 @@ sight_end_over u (f ∷ fs) s e w = rw e (go (same_buffer u f.buffer) (eqb f.sin
 
 -- A landing: the oldest frame that waits is then the one in its buffer, and was so before if a word of it had landed.
 pub frame_landing : (u : Buffer) (fs : List Tale) → Sound fs → any_waiting fs ≡ true
-    → frame_in u (landing_of fs) ≡ cond (same_buffer u (eldest fs).buffer) (some (one_landed (eldest fs))) (frame_in u fs)
+    → frame_in u (landing_of fs) ≡ cond (same_buffer u (eldest fs).buffer) (Some (one_landed (eldest fs))) (frame_in u fs)
 unfolding frame_in landing_of any_waiting eldest
 frame_landing u [] s e = absurd (false≢true e)
 frame_landing u (f ∷ fs) s e = go (any_waiting fs) (waiting f) refl (frame_landing u fs s.3) e
   where
-    by : (b : Bool) → cond (b && ltb 0 (f.landed + 1)) (some (one_landed f)) (frame_in u fs)
-        ≡ cond b (some (one_landed f)) (cond (b && ltb 0 f.landed) (some f) (frame_in u fs))
+    by : (b : Bool) → cond (b && ltb 0 (f.landed + 1)) (Some (one_landed f)) (frame_in u fs)
+        ≡ cond b (Some (one_landed f)) (cond (b && ltb 0 f.landed) (Some f) (frame_in u fs))
     by true = rw (lt-ltb 0 (f.landed + 1) (omega arith))
     by false = refl
 
     go : (b c : Bool) → any_waiting fs ≡ b
-        → (any_waiting fs ≡ true → frame_in u (landing_of fs) ≡ cond (same_buffer u (eldest fs).buffer) (some (one_landed (eldest fs))) (frame_in u fs)) → c || b ≡ true
+        → (any_waiting fs ≡ true → frame_in u (landing_of fs) ≡ cond (same_buffer u (eldest fs).buffer) (Some (one_landed (eldest fs))) (frame_in u fs)) → c || b ≡ true
         → frame_in u (cond b (f ∷ landing_of fs) (cond c (one_landed f ∷ fs) (f ∷ fs)))
-        ≡ cond (same_buffer u (cond b (eldest fs) f).buffer) (some (one_landed (cond b (eldest fs) f))) (frame_in u (f ∷ fs))
+        ≡ cond (same_buffer u (cond b (eldest fs) f).buffer) (Some (one_landed (cond b (eldest fs) f))) (frame_in u (f ∷ fs))
     go true c w rest e = rw (skip u f (landing_of fs) (s.1 w), skip u f fs (s.1 w)) (rest w)
     go false true w rest e = by (same_buffer u f.buffer)
     go false false w rest e = absurd (false≢true e)
@@ -161,13 +161,13 @@ same_is A B e = absurd (false≢true e)
 same_is B A e = absurd (false≢true e)
 same_is B B e = refl
 
-pub frame_eldest : (fs : List Tale) → Sound fs → any_waiting fs ≡ true → eqb (eldest fs).landed 0 ≡ false → frame_in (eldest fs).buffer fs ≡ some (eldest fs)
+pub frame_eldest : (fs : List Tale) → Sound fs → any_waiting fs ≡ true → eqb (eldest fs).landed 0 ≡ false → frame_in (eldest fs).buffer fs ≡ Some (eldest fs)
 unfolding frame_in any_waiting eldest
 frame_eldest [] s e z = absurd (false≢true e)
 frame_eldest (f ∷ fs) s e z = go (any_waiting fs) refl (frame_eldest fs s.3) z
   where
-    go : (b : Bool) → any_waiting fs ≡ b → (any_waiting fs ≡ true → eqb (eldest fs).landed 0 ≡ false → frame_in (eldest fs).buffer fs ≡ some (eldest fs))
-        → eqb (cond b (eldest fs) f).landed 0 ≡ false → frame_in (cond b (eldest fs) f).buffer (f ∷ fs) ≡ some (cond b (eldest fs) f)
+    go : (b : Bool) → any_waiting fs ≡ b → (any_waiting fs ≡ true → eqb (eldest fs).landed 0 ≡ false → frame_in (eldest fs).buffer fs ≡ Some (eldest fs))
+        → eqb (cond b (eldest fs) f).landed 0 ≡ false → frame_in (cond b (eldest fs) f).buffer (f ∷ fs) ≡ Some (cond b (eldest fs) f)
     go true w rest z = rw (skip (eldest fs).buffer f fs (s.1 w)) (rest w z)
     go false w rest z = rw (same_same f.buffer, lt-ltb 0 f.landed (omega (arith, eqb-false f.landed 0 z)))
 
@@ -204,7 +204,7 @@ pub sight_landing : (u : Buffer) (fs : List Tale) → Sound fs → any_waiting f
 sight_landing u fs s w = ap sight_of (frame_landing u fs s w) ∙ go (same_buffer u (eldest fs).buffer) refl
   where
     go : (b : Bool) → same_buffer u (eldest fs).buffer ≡ b
-        → sight_of (cond b (some (one_landed (eldest fs))) (frame_in u fs)) ≡ cond b (landed_sight (eqb (eldest fs).landed 0) (over (eldest fs)) (sight_in u fs)) (sight_in u fs)
+        → sight_of (cond b (Some (one_landed (eldest fs))) (frame_in u fs)) ≡ cond b (landed_sight (eqb (eldest fs).landed 0) (over (eldest fs)) (sight_in u fs)) (sight_in u fs)
     go true e =
         let g = eldest fs in
         one_landed_sight g.since g.landed (completed g) g.ended (sight_in u fs) (eldest_counts fs s w).recent
@@ -213,28 +213,28 @@ sight_landing u fs s w = ap sight_of (frame_landing u fs s w) ∙ go (same_buffe
     go false e = refl
 
 -- What is known to be complete is complete.
-pub read_off : (u : Buffer) (fs : List Tale) → Sound fs → cond (is_complete (sight_in u fs).content) (some (sight_in u fs).place) none ≡ word_count (if_complete (frame_in u fs))
+pub read_off : (u : Buffer) (fs : List Tale) → Sound fs → cond (is_complete (sight_in u fs).content) (Some (sight_in u fs).place) None ≡ word_count (if_complete (frame_in u fs))
 unfolding frame_in if_complete word_count
 read_off u [] s = refl
 read_off u (f ∷ fs) s = go (is_in u f) (read_off u fs s.3)
   where
-    by : (n l m : ℕ) (e : Bool) → n ≤ l → l ≤ m → cond (is_complete (state n l m e)) (some n) none ≡ cond (e && eqb n m) (some m) none
+    by : (n l m : ℕ) (e : Bool) → n ≤ l → l ≤ m → cond (is_complete (state n l m e)) (Some n) None ≡ cond (e && eqb n m) (Some m) None
     by n l m e le le' = back (eqb n l) refl
       where
-        each : (c d : Bool) → eqb l m ≡ d → cond (is_complete (cond (c && d) Complete Landing)) (some l) none ≡ cond (c && d) (some m) none
-        each true true q = ap some (eqb-true l m q)
+        each : (c d : Bool) → eqb l m ≡ d → cond (is_complete (cond (c && d) Complete Landing)) (Some l) None ≡ cond (c && d) (Some m) None
+        each true true q = ap Some (eqb-true l m q)
         each true false q = refl
         each false d q = refl
 
-        back : (b : Bool) → eqb n l ≡ b → cond (is_complete (state n l m e)) (some n) none ≡ cond (e && eqb n m) (some m) none
+        back : (b : Bool) → eqb n l ≡ b → cond (is_complete (state n l m e)) (Some n) None ≡ cond (e && eqb n m) (Some m) None
         back true q = rw (q, eqb-true n l q) (each e (eqb l m) refl)
         back false q = rw (q, ne_eqb n m (λ z. eqb-false n l q (omega arith)), and_zero e)
 
-    counted : (b : Bool) → word_count (cond b (some f) none) ≡ cond b (some (completed f)) none
+    counted : (b : Bool) → word_count (cond b (Some f) None) ≡ cond b (Some (completed f)) None
     counted true = refl
     counted false = refl
 
-    go : (b : Bool) → cond (is_complete (sight_in u fs).content) (some (sight_in u fs).place) none ≡ word_count (if_complete (frame_in u fs))
-        → let o = cond b (some f) (frame_in u fs) in cond (is_complete (sight_of o).content) (some (sight_of o).place) none ≡ word_count (if_complete o)
+    go : (b : Bool) → cond (is_complete (sight_in u fs).content) (Some (sight_in u fs).place) None ≡ word_count (if_complete (frame_in u fs))
+        → let o = cond b (Some f) (frame_in u fs) in cond (is_complete (sight_of o).content) (Some (sight_of o).place) None ≡ word_count (if_complete o)
     go true rest = let c = s.0 in by f.since f.landed (completed f) f.ended c.recent c.part ∙ sym (counted (complete f))
     go false rest = rest

@@ -114,10 +114,6 @@ unfoldable pub queue : List Tale → List Tag
 queue [] = []
 queue (f ∷ fs) = queue fs ++ tags_of f
 
-append-nil : (ts : List Tag) → ts ++ [] ≡ ts
-append-nil [] = refl
-append-nil (t ∷ ts) = ap (λ l. t ∷ l) (append-nil ts)
-
 pub queue_none : (fs : List Tale) → any_waiting fs ≡ false → queue fs ≡ []
 unfolding queue any_waiting
 queue_none [] e = refl

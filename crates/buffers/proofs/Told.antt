@@ -3,7 +3,7 @@
 -- it so. Assumes nothing.
 use mathlib.Core.Bool.{Bool, true, false, cond, not}
 use mathlib.Core.List.{List, [], ◌∷◌, map}
-use mathlib.Core.Option.{Option, none, some}
+use Rattle.std.specs.Prelude.{Option, None, Some}
 use mathlib.Core.Path.{◌≡◌, refl, sym, ap, ◌∙◌, subst}
 use Prim.Native.Nat.{ℕ, suc, ◌+◌, ◌-◌, ◌/◌, ◌^◌}
 use native.Mathlib.Omega.{arith}
@@ -389,19 +389,19 @@ complete_is_history es u = by u ∙ read_off u (story [] es) t.sound
     t = all_kept start [] es tells_start
 
     words : Sight → Option ℕ
-    words x = cond (is_complete x.content) (some x.place) none
+    words x = cond (is_complete x.content) (Some x.place) None
 
     by : (u : Buffer) → words (seen u (keeps start es)) ≡ words (sight_in u (story [] es))
     by A = ap words t.in_a
     by B = ap words t.in_b
 
 -- One word in A; then two in B, of which the last lands after the end; a re-arming between two words; words discarded; a word still held at the end; a third frame, in A again.
-pub cases : (complete_of A (keeps start (held 7 ∷ landed ∷ ended ∷ [])) ≡ some 1)
-    × (complete_of A (keeps start (held 7 ∷ ended ∷ held 7 ∷ landed ∷ landed ∷ held 7 ∷ ended ∷ landed ∷ [])) ≡ some 1)
-    × (complete_of B (keeps start (held 7 ∷ ended ∷ held 7 ∷ landed ∷ landed ∷ held 7 ∷ ended ∷ landed ∷ [])) ≡ some 2)
-    × (complete_of A (keeps start (held 7 ∷ held 7 ∷ landed ∷ rearmed ∷ landed ∷ ended ∷ [])) ≡ none)
-    × (complete_of A (keeps start (held 7 ∷ held 7 ∷ landed ∷ discarded ∷ ended ∷ [])) ≡ none)
-    × (complete_of A (keeps start (held 7 ∷ held 7 ∷ landed ∷ ended ∷ [])) ≡ none)
-    × (complete_of A (keeps start (held 7 ∷ landed ∷ ended ∷ held 7 ∷ landed ∷ ended ∷ held 7 ∷ landed ∷ ended ∷ [])) ≡ some 1)
+pub cases : (complete_of A (keeps start (held 7 ∷ landed ∷ ended ∷ [])) ≡ Some 1)
+    × (complete_of A (keeps start (held 7 ∷ ended ∷ held 7 ∷ landed ∷ landed ∷ held 7 ∷ ended ∷ landed ∷ [])) ≡ Some 1)
+    × (complete_of B (keeps start (held 7 ∷ ended ∷ held 7 ∷ landed ∷ landed ∷ held 7 ∷ ended ∷ landed ∷ [])) ≡ Some 2)
+    × (complete_of A (keeps start (held 7 ∷ held 7 ∷ landed ∷ rearmed ∷ landed ∷ ended ∷ [])) ≡ None)
+    × (complete_of A (keeps start (held 7 ∷ held 7 ∷ landed ∷ discarded ∷ ended ∷ [])) ≡ None)
+    × (complete_of A (keeps start (held 7 ∷ held 7 ∷ landed ∷ ended ∷ [])) ≡ None)
+    × (complete_of A (keeps start (held 7 ∷ landed ∷ ended ∷ held 7 ∷ landed ∷ ended ∷ held 7 ∷ landed ∷ ended ∷ [])) ≡ Some 1)
 unfolding start fresh_turns keeps keep complete_of frame_ended with_turn landed_at oldest_buffer word_held with_tags first_word word_landed last_of_frame oldest_opens with_content frame_over with_latest oldest_place with_place_b rules.rearmed rules.discarded
 cases = (refl, refl, refl, refl, refl, refl, refl)

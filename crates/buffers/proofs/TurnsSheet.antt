@@ -1,6 +1,6 @@
 -- W2, sentence by sentence: events in a row, worked out from the request by hand, proved of the definitions by computation under one statement, `turns_sheet`.
 use mathlib.Core.List.{List, [], ◌∷◌, ◌++◌, map}
-use mathlib.Core.Option.{Option, none, some}
+use Rattle.std.specs.Prelude.{Option, None, Some}
 use mathlib.Core.Path.{◌≡◌, refl}
 use Prim.Native.Nat.{ℕ}
 use lib.ListN.{length}
@@ -24,8 +24,8 @@ pub record Seen : Type 0 where
   pub latest_told : Option Buffer
 
 abbrev words_of : Option Tale → List ℕ
-words_of none = []
-words_of (some f) = f.words
+words_of None = []
+words_of (Some f) = f.words
 
 abbrev seen : List Event → Seen
 seen es =
@@ -44,8 +44,8 @@ seen es =
 
 -- Complete in A are these words, in B these, none where there are none.
 abbrev number : List ℕ → Option ℕ
-number [] = none
-number (v ∷ vs) = some (length (v ∷ vs))
+number [] = None
+number (v ∷ vs) = Some (length (v ∷ vs))
 
 abbrev shows : List ℕ → List ℕ → Option Buffer → ℕ → ℕ → Seen
 shows a b latest place_a place_b =
@@ -77,22 +77,22 @@ pub turns_sheet :
     (one_word 10 ++ one_word 20 ++ rearmed ∷ []) ∷
     []) ≡
     -- All words of the first frame have landed, and it has ended: complete in A.
-    shows (10 ∷ 11 ∷ []) [] (some A) 2 0 ∷
+    shows (10 ∷ 11 ∷ []) [] (Some A) 2 0 ∷
     -- "All its words ... have landed": not while one is held, then it is.
-    shows [] [] none 1 0 ∷
-    shows (10 ∷ 11 ∷ []) [] (some A) 2 0 ∷
+    shows [] [] None 1 0 ∷
+    shows (10 ∷ 11 ∷ []) [] (Some A) 2 0 ∷
     -- The next frame's first word is completed: the places stay.
-    shows (10 ∷ []) [] (some A) 1 0 ∷
+    shows (10 ∷ []) [] (Some A) 1 0 ∷
     -- A held word carries its buffer: that of the first frame lands in A after the second has switched to B.
-    shows (10 ∷ []) [] (some A) 1 0 ∷
+    shows (10 ∷ []) [] (Some A) 1 0 ∷
     -- The first word of a frame lands at place 0; the frame before it in that buffer is no longer complete.
-    shows [] (20 ∷ []) (some B) 1 1 ∷
+    shows [] (20 ∷ []) (Some B) 1 1 ∷
     -- A first word that is lost has switched all the same.
-    shows [] (20 ∷ []) (some B) 0 1 ∷
+    shows [] (20 ∷ []) (Some B) 0 1 ∷
     -- A frame of which no word has landed leaves the one in its buffer.
-    shows (10 ∷ []) (20 ∷ []) (some B) 1 1 ∷
+    shows (10 ∷ []) (20 ∷ []) (Some B) 1 1 ∷
     -- Re-arming: both places are 0, and no frame is complete.
-    shows [] [] none 0 0 ∷
+    shows [] [] None 0 0 ∷
     []
 unfolding fresh_turns with_turn with_tags with_place_b with_latest with_content first_word word_held rules.discarded word_lost oldest_buffer oldest_opens oldest_place frame_over last_of_frame word_landed frame_ended rules.rearmed latest_complete start landed_at keep keeps complete_of any_waiting word_of landing_of ending_of tell story frame_in if_complete complete_in latest_in which
 turns_sheet = refl

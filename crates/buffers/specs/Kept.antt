@@ -1,6 +1,5 @@
 -- W2: what is kept for two buffers, over a list of events, with A's next place and the number of held words beside it; and from that which buffer holds a complete frame, of how many words.
-use Rattle.std.specs.Prelude.{cond, List, [], ◌∷◌, ℕ, ◌+◌, ◌-◌, ltb}
-use Rattle.std.proofs.Math.Option.{Option, none, some}
+use Rattle.std.specs.Prelude.{cond, List, [], ◌∷◌, ℕ, ◌+◌, ◌-◌, ltb, Option, None, Some}
 use Rattle.buffers.specs.declared.Buffer.{Buffer}
 use Rattle.buffers.specs.declared.Buffer.TheVariants.{A, B}
 use Rattle.buffers.specs.declared.Turns.{Turns}
@@ -39,4 +38,4 @@ place_in A k = k.place_a
 place_in B k = k.turns.place
 
 unfoldable pub complete_of : Buffer → Kept → Option ℕ
-complete_of u k = cond (is_complete (content u k.turns)) (some (place_in u k)) none
+complete_of u k = cond (is_complete (content u k.turns)) (Some (place_in u k)) None

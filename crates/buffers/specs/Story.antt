@@ -1,6 +1,5 @@
 -- W2, from the history: what became of each frame that completed a word since the mode was set, told by the events alone; and from that which frame is complete.
-use Rattle.std.specs.Prelude.{Bool, true, false, cond, not, ◌&&◌, ◌||◌, List, [], ◌∷◌, ◌++◌, map, ℕ, ◌+◌, eqb, ltb, length}
-use Rattle.std.proofs.Math.Option.{Option, none, some}
+use Rattle.std.specs.Prelude.{Bool, true, false, cond, not, ◌&&◌, ◌||◌, List, [], ◌∷◌, ◌++◌, map, ℕ, ◌+◌, eqb, ltb, length, Option, None, Some}
 use Rattle.buffers.specs.declared.Buffer.{Buffer}
 use Rattle.buffers.specs.declared.Buffer.TheVariants.{A, B}
 use Rattle.buffers.specs.Turns.{other}
@@ -98,16 +97,16 @@ same_buffer B A = false
 same_buffer B B = true
 
 unfoldable pub frame_in : Buffer → List Tale → Option Tale
-frame_in u [] = none
-frame_in u (f ∷ fs) = cond (same_buffer u f.buffer && ltb 0 f.landed) (some f) (frame_in u fs)
+frame_in u [] = None
+frame_in u (f ∷ fs) = cond (same_buffer u f.buffer && ltb 0 f.landed) (Some f) (frame_in u fs)
 
 -- "A buffer's frame is complete when it ended by rule 4 and all its words, at least one, have landed since the last re-arming": the frame in a buffer, if it is complete.
 abbrev pub complete : Tale → Bool
 complete f = f.ended && eqb f.since (completed f)
 
 unfoldable pub if_complete : Option Tale → Option Tale
-if_complete none = none
-if_complete (some f) = cond (complete f) (some f) none
+if_complete None = None
+if_complete (Some f) = cond (complete f) (Some f) None
 
 unfoldable pub complete_in : Buffer → List Tale → Option Tale
 complete_in u fs = if_complete (frame_in u fs)
@@ -115,14 +114,14 @@ complete_in u fs = if_complete (frame_in u fs)
 -- "The part of A or B that holds the latest complete frame": of the frames complete now, the one that came last. That is the newest of which a word has landed, if it is complete, or else
 -- the one in the other buffer, if that is.
 unfoldable pub latest_in : List Tale → Option Tale
-latest_in [] = none
-latest_in (f ∷ fs) = cond (ltb 0 f.landed) (cond (complete f) (some f) (complete_in (other f.buffer) fs)) (latest_in fs)
+latest_in [] = None
+latest_in (f ∷ fs) = cond (ltb 0 f.landed) (cond (complete f) (Some f) (complete_in (other f.buffer) fs)) (latest_in fs)
 
 -- Of such a frame: how many words, and its buffer.
 unfoldable pub word_count : Option Tale → Option ℕ
-word_count none = none
-word_count (some f) = some (completed f)
+word_count None = None
+word_count (Some f) = Some (completed f)
 
 unfoldable pub which : Option Tale → Option Buffer
-which none = none
-which (some f) = some f.buffer
+which None = None
+which (Some f) = Some f.buffer

@@ -1,6 +1,5 @@
 -- W2, two frame buffers in turn (document 02; 004, 32.3.6: "successive buffers"): what a completed word, a landing, the end of a frame, discarding and re-arming do.
-use Rattle.std.specs.Prelude.{Bool, true, false, cond, not, ℕ, ◌+◌, ◌-◌, ◌/◌, ◌^◌, ltb}
-use Rattle.std.proofs.Math.Option.{Option, none, some}
+use Rattle.std.specs.Prelude.{Bool, true, false, cond, not, ℕ, ◌+◌, ◌-◌, ◌/◌, ◌^◌, ltb, Option, None, Some}
 use Rattle.bits.specs.Bits.{bit}
 use Rattle.buffers.specs.declared.Buffer.{Buffer}
 use Rattle.buffers.specs.declared.Buffer.TheVariants.{A, B}
@@ -119,5 +118,5 @@ is_complete Complete = true
 
 unfoldable pub latest_complete : Turns → Option Buffer
 latest_complete t =
-    cond (is_complete (content t.latest t)) (some t.latest)
-    (cond (is_complete (content (other t.latest) t)) (some (other t.latest)) none)
+    cond (is_complete (content t.latest t)) (Some t.latest)
+    (cond (is_complete (content (other t.latest) t)) (Some (other t.latest)) None)

@@ -1,22 +1,23 @@
 -- The words of the calls' answers as include/dcmi.h numbers them, what a refused call leaves, and calls on images, proved of the definitions by computation.
 use mathlib.Core.Bool.{true, false}
 use mathlib.Core.List.{[], ◌∷◌, map}
-use mathlib.Core.Option.{none, some}
+use Rattle.std.specs.Prelude.{None, Some}
 use mathlib.Core.Path.{◌≡◌, refl}
 use lib.ListN.{replicate}
 use Rattle.buffers.specs.declared.Buffer.TheVariants.{A, B}
 use Rattle.refusals.specs.Refusals.{refused, answered}
-use Rattle.output.specs.Output.{nothing, completed, lost}
+use Rattle.output.specs.declared.Packing.TheVariants.{Nothing as nothing, Completed as completed, Lost as lost}
 use Rattle.board_rules.specs.HandingBack as handing
 use Rattle.board_rules.proofs.BuffersSheet.{every_board_rule}
 use Rattle.image_rules.specs.Image as image
 use Rattle.image_rules.specs.BoardImage.{image_of, encodes, mode_encodes, zeros_encode, mode_of, board_of}
+use Rattle.board_rules.specs.declared.Handed.TheVariants as handed_cases
 use Rattle.call_rules.specs.DeviceCalls.{called, reset, write, gave, got, got_line, read, answer_words, two_words, frame_called, frame_words}
 
 -- A sample's answers over one memory.
 pub words_sheet :
     map answer_words
-    (record { landing = none; packed = nothing } ∷ record { landing = some 8; packed = completed 99 } ∷ record { landing = some 0; packed = lost } ∷ []) ≡
+    (record { landing = None; packed = nothing } ∷ record { landing = Some 8; packed = completed 99 } ∷ record { landing = Some 0; packed = lost } ∷ []) ≡
     (0 ∷ 0 ∷ 0 ∷ 0 ∷ []) ∷
     (1 ∷ 8 ∷ 1 ∷ 99 ∷ []) ∷
     (1 ∷ 0 ∷ 2 ∷ 0 ∷ []) ∷
@@ -26,9 +27,9 @@ words_sheet = refl
 -- Over two.
 pub two_words_sheet :
     map two_words
-    (record { landing = none; packed = lost } ∷
-    record { landing = some (record { buffer = A; byte = 8 }); packed = completed 99 } ∷
-    record { landing = some (record { buffer = B; byte = 4 }); packed = nothing } ∷
+    (record { landing = None; packed = lost } ∷
+    record { landing = Some (record { buffer = A; byte = 8 }); packed = completed 99 } ∷
+    record { landing = Some (record { buffer = B; byte = 4 }); packed = nothing } ∷
     []) ≡
     (0 ∷ 0 ∷ 2 ∷ 0 ∷ []) ∷
     (1 ∷ 8 ∷ 1 ∷ 99 ∷ []) ∷
@@ -39,7 +40,7 @@ two_words_sheet = refl
 -- Where the latest frame is, the memories starting at bytes 5 and 6.
 pub frame_sheet :
     map (frame_words (7 ∷ 7 ∷ 7 ∷ []) (record { a = record { length = 50; start = 5 }; b = record { length = 60; start = 6 } }))
-    (refused 16 ∷ answered handing.nothing ∷ answered (handing.frame_in A 12) ∷ answered (handing.frame_in B 16) ∷ answered (handing.too_short A 48) ∷ answered (handing.too_short B 64) ∷ []) ≡
+    (refused 16 ∷ answered handed_cases.Nothing ∷ answered (handed_cases.FrameIn A 12) ∷ answered (handed_cases.FrameIn B 16) ∷ answered (handed_cases.TooShort A 48) ∷ answered (handed_cases.TooShort B 64) ∷ []) ≡
     frame_called 16 (7 ∷ 7 ∷ 7 ∷ []) ∷
     frame_called 0 (0 ∷ 0 ∷ 0 ∷ []) ∷
     frame_called 0 (1 ∷ 5 ∷ 12 ∷ []) ∷

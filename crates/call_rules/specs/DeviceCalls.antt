@@ -1,18 +1,23 @@
 -- What the exported calls on a device answer and leave: the rules of each call on the board of an image, as numbers and words (include/dcmi.h). An image that
 -- encodes no board is malformed: refusal 1. Refused, image, memory and every output stay.
-use Rattle.std.specs.Prelude.{Bool, cond, List, [], ◌∷◌, ℕ, eqb}
-use Rattle.std.proofs.Math.Option.{Option, none, some}
+use Rattle.std.specs.Prelude.{Bool, cond, List, [], ◌∷◌, ℕ, eqb, Option, None, Some}
 use Rattle.refusals.specs.Refusals.{Answer, refused, answered}
 use Rattle.buffers.specs.declared.Buffer.{Buffer}
 use Rattle.buffers.specs.declared.Buffer.TheVariants.{A, B}
-use Rattle.output.specs.Output.{Packed, nothing, completed, lost, SampleAnswer}
+use Rattle.output.specs.declared.Packing.{Packing as Packed}
+use Rattle.output.specs.declared.Packing.TheVariants.{Nothing as nothing, Completed as completed, Lost as lost}
+use Rattle.output.specs.declared.SampleAnswer.{SampleAnswer}
 use Rattle.board_rules.specs.declared.Board.{Board}
 use Rattle.board_rules.specs.Answers.{Changed}
-use Rattle.board_rules.specs.TwoBuffers.{Pair, Landing}
+use Rattle.board_rules.specs.TwoBuffers.{Pair}
+use Rattle.board_rules.specs.declared.Landing.{Landing}
 use Rattle.board_rules.specs.BoardCalls as board_calls
 use Rattle.board_rules.specs.BoardRuns as board_runs
 use Rattle.board_rules.specs.HandingBack as handing_rules
 use Rattle.image_rules.specs.Image.{flag}
+use Rattle.board_rules.specs.declared.Handed.TheVariants as handed_cases
+use Rattle.board_rules.specs.declared.Handed.{Handed}
+use Rattle.board_rules.specs.declared.TwoAnswer.{TwoAnswer}
 use Rattle.image_rules.specs.BoardImage.{image_of, encodes, board_of}
 
 -- The number, and the image that is left.
@@ -109,12 +114,12 @@ run_two image l samples =
 
 -- A sample's two answers as four words: landed, byte, packed, value.
 abbrev pub landed_word : Option ℕ → ℕ
-landed_word none = 0
-landed_word (some byte) = 1
+landed_word None = 0
+landed_word (Some byte) = 1
 
 abbrev pub byte_word : Option ℕ → ℕ
-byte_word none = 0
-byte_word (some byte) = byte
+byte_word None = 0
+byte_word (Some byte) = byte
 
 abbrev pub packed_word : Packed → ℕ
 packed_word nothing = 0
@@ -160,17 +165,17 @@ in_word A = 1
 in_word B = 2
 
 abbrev pub landed_in_word : Option Landing → ℕ
-landed_in_word none = 0
-landed_in_word (some l) = in_word l.buffer
+landed_in_word None = 0
+landed_in_word (Some l) = in_word l.buffer
 
 abbrev pub byte_in_word : Option Landing → ℕ
-byte_in_word none = 0
-byte_in_word (some l) = l.byte
+byte_in_word None = 0
+byte_in_word (Some l) = l.byte
 
-abbrev pub two_words : board_runs.TwoAnswer → List ℕ
+abbrev pub two_words : TwoAnswer → List ℕ
 two_words a = landed_in_word a.landing ∷ byte_in_word a.landing ∷ packed_word a.packed ∷ value_word a.packed ∷ []
 
-abbrev pub two_stored : List ℕ → List ℕ → Answer board_runs.TwoAnswer → Board → SampleStored
+abbrev pub two_stored : List ℕ → List ℕ → Answer TwoAnswer → Board → SampleStored
 two_stored image old (refused n) b = sample_called n image old
 two_stored image old (answered a) b = sample_called 0 (image_of b) (two_words a)
 
@@ -203,11 +208,11 @@ frame_called number frame = record { number = number; frame = frame }
 abbrev pub start_of : Buffer → handing_rules.Spans → ℕ
 start_of u s = (handing_rules.span_of u s).start
 
-abbrev pub frame_words : List ℕ → handing_rules.Spans → Answer handing_rules.Handed → FrameCalled
+abbrev pub frame_words : List ℕ → handing_rules.Spans → Answer Handed → FrameCalled
 frame_words old s (refused n) = record { number = n; frame = old }
-frame_words old s (answered handing_rules.nothing) = record { number = 0; frame = 0 ∷ 0 ∷ 0 ∷ [] }
-frame_words old s (answered (handing_rules.too_short u bytes)) = record { number = 0; frame = short_word u ∷ start_of u s ∷ bytes ∷ [] }
-frame_words old s (answered (handing_rules.frame_in u bytes)) = record { number = 0; frame = in_word u ∷ start_of u s ∷ bytes ∷ [] }
+frame_words old s (answered handed_cases.Nothing) = record { number = 0; frame = 0 ∷ 0 ∷ 0 ∷ [] }
+frame_words old s (answered (handed_cases.TooShort u bytes)) = record { number = 0; frame = short_word u ∷ start_of u s ∷ bytes ∷ [] }
+frame_words old s (answered (handed_cases.FrameIn u bytes)) = record { number = 0; frame = in_word u ∷ start_of u s ∷ bytes ∷ [] }
 
 unfoldable pub latest_frame : List ℕ → handing_rules.Spans → List ℕ → FrameCalled
 latest_frame image s old =

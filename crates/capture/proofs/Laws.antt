@@ -1,9 +1,12 @@
--- RIS stays at most 31, a period of the rate counter is short, and a working edge goes by whether a sync blanks. Assumes nothing.
+-- A flag raised, the rate counter's period, and a working edge by whether a sync blanks. Assumes nothing.
 use mathlib.Core.Bool.{Bool, true, false, not, ◌&&◌, ◌||◌}
 use mathlib.Core.Path.{◌≡◌, refl}
-use Prim.Native.Nat.{ℕ, ◌≤◌}
+use Prim.Native.Nat.{ℕ, ◌+◌, ◌*◌, ◌%◌, ◌<◌, ◌≤◌, ◌^◌}
 use native.Mathlib.Omega.{arith}
 use lib.Dec.{eqb, leb}
+use lib.Bits.{bit_and, bit_or, or_add_and}
+use Rattle.std.proofs.lemmas.Nat.{one_shl}
+use Rattle.std.proofs.lemmas.Nat.Bits.{and_pow}
 use Rattle.registers.specs.Control.{crop, fcrc}
 use Rattle.rules.specs.declared.Syncs.{Syncs}
 use Rattle.rules.specs.declared.Scan.{Scan}
@@ -11,19 +14,25 @@ use Rattle.rules.specs.declared.Frame.{Frame}
 use Rattle.rules.specs.declared.Frame.TheVariants.{Closed, Open}
 use Rattle.rules.specs.declared.Capture.{Capture}
 use Rattle.rules.specs.CropWindow.{lines_to_window_end}
-use Rattle.rules.specs.State.{not_blanking, raise, with_registers, with_ris, with_pins, with_syncs}
+use Rattle.rules.specs.State.{not_blanking, with_pins, with_syncs}
 use Rattle.rules.specs.Capture.{no_word, vsync_flag, line_flag, sync_flags, window_ended, hsync_after_window, frame_rises, frame_due, frame_closes, rate_period, frame_start, blanking, remember_pins, any_blanks, pixel_in, pixel_edge}
 use Rattle.rules.specs.Unpadded.{unpadded_end, unpadded_edge}
-use Rattle.bits.proofs.Booleans.{or_false, and_zero, either}
+use Rattle.bits.specs.Bits.{bit, raised}
+use Rattle.bits.proofs.Booleans.{or_false, and_zero, either, by_cond}
+use Rattle.bits.proofs.Raised.{bit_true, bit_false}
 use Rattle.rules.proofs.WellFormed.{CaptureOk}
 use Rattle.laws.proofs.Moved.{no_pixel}
 use Rattle.laws.proofs.CaptureParts.{pins_syncs_ok}
-use Rattle.laws.proofs.RegisterValues.{raised_fits}
 
-pub vsync_flag_ris : (s : Capture) (now : Syncs) → s.registers.ris ≤ 31 → (vsync_flag s now).registers.ris ≤ 31
-unfolding vsync_flag raise with_registers with_ris
-vsync_flag_ris s now h =
-    either (λ (t : Capture). t.registers.ris ≤ 31) (not s.syncs.vsync && now.vsync) (raised_fits 3 _ (omega arith) h) h
+-- A flag of RIS rises by `|`.
+pub or_raises : (k x : ℕ) → k < 32 → bit_or x (1 * 2 ^ k % 2 ^ 32) ≡ raised k x
+unfolding raised
+or_raises k x small =
+    let mask : 1 * 2 ^ k % 2 ^ 32 ≡ 2 ^ k = one_shl k 32 small in
+    let sum : bit_or x (2 ^ k) + bit_and x (2 ^ k) ≡ x + 2 ^ k = or_add_and x (2 ^ k) in
+    rw mask (by_cond (λ y. bit_or x (2 ^ k) ≡ y) (bit k x) _ _
+    (λ on. let same : bit_and x (2 ^ k) ≡ 1 * 2 ^ k = rw (and_pow, bit_true k x on) in omega arith)
+    (λ off. let none : bit_and x (2 ^ k) ≡ 0 * 2 ^ k = rw (and_pow, bit_false k x off) in omega arith))
 
 pub short_period : (cr : ℕ) → rate_period cr ≤ 4
 unfolding rate_period

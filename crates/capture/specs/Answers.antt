@@ -1,21 +1,13 @@
 -- What each case of the capture rules' answer says.
 use Rattle.std.specs.Prelude.{false, ℕ}
-use Rattle.std.proofs.Math.Option.{Option, none, some}
 use Rattle.rules.specs.declared.Capture.{Capture}
 use Rattle.rules.specs.State.{with_syncs}
 use Rattle.rules.specs.Capture as capture_rules
-use Rattle.capture.specs.declared.Word.{Word}
-use Rattle.capture.specs.declared.Word.TheVariants.{Nothing, Full}
 use Rattle.capture.specs.declared.Captured.{Captured}
-
--- No word, or the full word's value.
-abbrev pub word : Word → Option ℕ
-word Nothing = none
-word (Full v) = some v
 
 -- The state after a sample, in which FRAME has risen where it is due, and its word.
 abbrev pub captured : Captured → capture_rules.Captured
-captured c = record { state = c.state; word = word c.word; due = false; error = false }
+captured c = record { state = c.state; word = c.word; due = false; error = false }
 
 -- The state after rules 2 to 5 of a sample, without a pixel.
 unfoldable pub ended : Capture → ℕ → Capture

@@ -1,13 +1,12 @@
 // Rules 4 and 5: frame end and frame start.
-ghost use Rattle.std.specs.Prelude.{cond, ◌≡◌, ◌+◌, ◌<◌, ◌≤◌, ◌^◌};
-ghost use Rattle.bits.specs.Bits.{lowered};
+ghost use Rattle.std.specs.Prelude.{cond, ◌≡◌, ◌+◌, ◌<◌, ◌^◌};
 ghost use Rattle.rules.specs.State as state;
 ghost use Rattle.rules.specs.CropWindow as crop_window;
 ghost use Rattle.rules.specs.Capture as capture_rules;
 ghost use Rattle.rules.specs.Unpadded as unpadded_rules;
 
 use crate::apart;
-use crate::syncs::raise_frame;
+use crate::syncs::{FRAME, raise};
 use fields::{control, window};
 use rules::{Capture, Frame, Partial, Scan, Syncs};
 
@@ -15,32 +14,20 @@ use rules::{Capture, Frame, Partial, Scan, Syncs};
 pub fn is_open(frame: Frame) -> bool
     ensures { result ≡ state.is_open frame }
 {
-    match frame {
-        Frame::Closed => false,
-        Frame::Open(_, _) => true,
-    }
-}
-
-// A CR value with CAPTURE 0.
-fn without_capture(cr: u32) -> u32
-    ensures { result ≡ lowered 0 cr }
-{
-    if control::capture(cr) {
-        return cr - 1;
-    }
-    cr
+    matches!(frame, Frame::Open(..))
 }
 
 // CAPTURE becomes 0.
+#[tactic(auto, unfolding(rules::specs::State::clear_capture, rules::specs::State::with_registers, rules::specs::State::with_cr, bits::specs::Bits::lowered))]
 pub fn clear_capture(mut s: Capture) -> Capture
     ensures { result ≡ state.clear_capture s }
 {
-    let cr = without_capture(s.registers.cr);
-    s.registers.cr = cr;
+    s.registers.cr &= !1;
     s
 }
 
-// The frame closed, and with it the partial word dropped.
+// The frame closed, and with it the partial word dropped; field by field, as by `apart`.
+#[tactic(auto, unfolding(rules::specs::State::close_frame, rules::specs::State::with_partial, rules::specs::State::with_frame))]
 pub fn close_frame(s: Capture) -> Capture
     ensures { result ≡ state.close_frame s }
 {
@@ -70,76 +57,61 @@ fn lines_to_window_end(s: Capture) -> u32
 }
 
 // Rule 4, W1: that line has ended.
+#[tactic(auto, unfolding(rules::specs::Capture::window_ended))]
 fn window_ended(s: Capture, f: Scan) -> bool
     ensures { result ≡ capture_rules.window_ended s f }
 {
     let lines = lines_to_window_end(s);
-    if lines < f.lines {
-        return true;
-    }
-    if f.lines == lines {
-        return s.syncs.hsync;
-    }
-    false
+    lines < f.lines || lines == f.lines && s.syncs.hsync
 }
 
 // Rule 4, W1: that line has begun, and HSYNC blanks.
+#[tactic(auto, unfolding(rules::specs::Capture::hsync_after_window))]
 fn hsync_after_window(s: Capture, f: Scan, now: Syncs) -> bool
     ensures { result ≡ capture_rules.hsync_after_window s f now }
 {
-    if lines_to_window_end(s) <= f.lines {
-        return now.hsync;
-    }
-    false
+    lines_to_window_end(s) <= f.lines && now.hsync
 }
 
 // Rule 4: when FRAME rises in a taken frame. With CROP 0 at frame end, with CROP 1 (W1) at the end of the window's last line, or at frame end if that line never ended.
+#[tactic(auto, unfolding(rules::specs::Capture::frame_rises))]
 pub fn frame_rises(s: Capture, f: Scan, now: Syncs) -> bool
     ensures { result ≡ capture_rules.frame_rises s f now }
 {
     if control::crop(s.registers.cr) {
-        if window_ended(s, f) {
-            return false;
-        }
-        if hsync_after_window(s, f, now) {
-            return true;
-        }
-        return now.vsync;
+        return !window_ended(s, f) && (hsync_after_window(s, f, now) || now.vsync);
     }
     now.vsync
 }
 
-// Rule 4: FRAME, where it is due, in a taken frame.
+// Rule 4: FRAME is due, in a taken frame.
+#[tactic(auto, unfolding(rules::specs::Capture::frame_due))]
+pub fn frame_due(frame: Frame, s: Capture, now: Syncs) -> bool
+    ensures { result ≡ capture_rules.frame_due frame s now }
+{
+    matches!(frame, Frame::Open(true, f) if frame_rises(s, f, now))
+}
+
+// Rule 4: FRAME, where it is due.
 fn frame_flag(frame: Frame, s: Capture, now: Syncs) -> Capture
-    requires { s.registers.ris ≤ 31 }
     ensures { result ≡ cond (capture_rules.frame_due frame s now) (state.raise 0 s) s }
 {
-    match frame {
-        Frame::Closed => s,
-        Frame::Open(taken, f) => {
-            if taken {
-                if frame_rises(s, f, now) {
-                    return raise_frame(s);
-                }
-                return s;
-            }
-            s
-        }
+    if frame_due(frame, s, now) {
+        return raise::<FRAME>(s);
     }
+    s
 }
 
 // Rule 4: the end of a frame; of a taken one CAPTURE becomes 0 with CM 1.
+#[tactic(auto, unfolding(rules::specs::Capture::end_of))]
 fn end_of(frame: Frame, s: Capture) -> Capture
     ensures { result ≡ capture_rules.end_of frame s }
 {
     match frame {
         Frame::Closed => s,
         Frame::Open(taken, _) => {
-            if taken {
-                if control::snapshot(s.registers.cr) {
-                    return close_frame(clear_capture(s));
-                }
-                return close_frame(s);
+            if taken && control::snapshot(s.registers.cr) {
+                return close_frame(clear_capture(s));
             }
             close_frame(s)
         }
@@ -147,41 +119,39 @@ fn end_of(frame: Frame, s: Capture) -> Capture
 }
 
 // Rule 4: an open frame closes when VSYNC blanks.
+#[tactic(auto, unfolding(rules::specs::Capture::frame_closes))]
 pub fn frame_closes(s: Capture, now: Syncs) -> Capture
     ensures { result ≡ capture_rules.frame_closes s now }
 {
-    let frame = s.frame;
     if now.vsync {
-        return end_of(frame, s);
+        return end_of(s.frame, s);
     }
     s
 }
 
 // Rule 4 where no word is padded: FRAME, and then the frame's end.
+#[tactic(auto, unfolding(rules::specs::Unpadded::unpadded_end))]
 pub fn unpadded_end(s: Capture, now: Syncs) -> Capture
-    requires { s.registers.ris ≤ 31 }
     ensures { result ≡ unpadded_rules.unpadded_end s now }
 {
-    let frame = s.frame;
-    let flagged = frame_flag(frame, s, now);
+    let flagged = frame_flag(s.frame, s, now);
     frame_closes(flagged, now)
 }
 
 // The period of the rate counter.
+#[tactic(auto, unfolding(rules::specs::Capture::rate_period))]
 pub fn rate_period(cr: u32) -> u32
     ensures { result ≡ capture_rules.rate_period cr }
 {
-    let fcrc = control::fcrc(cr);
-    if fcrc == 0 {
-        return 1;
+    match control::fcrc(cr) {
+        0 => 1,
+        1 => 2,
+        _ => 4,
     }
-    if fcrc == 1 {
-        return 2;
-    }
-    4
 }
 
 // Rule 5: the rate counter goes up modulo its period; with CM 1 it stays.
+#[tactic(auto, using(laws::proofs::Kept::period_positive), unfolding(rules::specs::Capture::next_rate))]
 pub fn next_rate(s: Capture) -> u32
     requires { s.rate + 1 < 2 ^ 32 }
     ensures { result ≡ capture_rules.next_rate s }
@@ -192,6 +162,8 @@ pub fn next_rate(s: Capture) -> u32
     (s.rate + 1) % rate_period(s.registers.cr)
 }
 
+// The frame that starts; field by field, as by `apart`.
+#[tactic(auto, unfolding(rules::specs::Capture::open_frame, rules::specs::State::with_rate, rules::specs::State::with_frame))]
 fn open_frame(s: Capture) -> Capture
     requires { s.rate + 1 < 2 ^ 32 }
     ensures { result ≡ capture_rules.open_frame s }
@@ -206,18 +178,16 @@ fn open_frame(s: Capture) -> Capture
     };
     let waiting = s.waiting;
     let rate = next_rate(s);
-    let taken = takes(s);
+    let place = Scan {
+        lines: 0,
+        pixels: 0,
+    };
+    let frame = Frame::Open(takes(s), place);
     Capture {
         registers,
         pins,
         syncs,
-        frame: Frame::Open(
-            taken,
-            Scan {
-                lines: 0,
-                pixels: 0,
-            },
-        ),
+        frame,
         rate,
         partial,
         waiting,
@@ -225,48 +195,29 @@ fn open_frame(s: Capture) -> Capture
 }
 
 // Rule 5: the frame is taken if CM is 1 or the rate counter is 0.
+#[tactic(auto, unfolding(rules::specs::Capture::takes))]
 pub fn takes(s: Capture) -> bool
     ensures { result ≡ capture_rules.takes s }
 {
-    if control::snapshot(s.registers.cr) {
-        return true;
-    }
-    s.rate == 0
-}
-
-fn start_of(frame: Frame, now: Syncs, s: Capture) -> Capture
-    requires { s.rate + 1 < 2 ^ 32 }
-    ensures { result ≡ capture_rules.start_of frame now s }
-{
-    match frame {
-        Frame::Closed => {
-            if starts(s, now) {
-                return open_frame(s);
-            }
-            s
-        }
-        Frame::Open(_, _) => s,
-    }
+    control::snapshot(s.registers.cr) || s.rate == 0
 }
 
 // Rule 5: CAPTURE is 1, and VSYNC blanked at the last working edge and does not now.
+#[tactic(auto, unfolding(rules::specs::Capture::starts))]
 fn starts(s: Capture, now: Syncs) -> bool
     ensures { result ≡ capture_rules.starts s now }
 {
-    if control::capture(s.registers.cr) {
-        if s.syncs.vsync {
-            return !now.vsync;
-        }
-        return false;
-    }
-    false
+    control::capture(s.registers.cr) && s.syncs.vsync && !now.vsync
 }
 
 // Rule 5: a frame starts where none is open.
+#[tactic(auto, unfolding(rules::specs::Capture::frame_start, rules::specs::Capture::start_of))]
 pub fn frame_start(s: Capture, now: Syncs) -> Capture
     requires { s.rate + 1 < 2 ^ 32 }
     ensures { result ≡ capture_rules.frame_start s now }
 {
-    let frame = s.frame;
-    start_of(frame, now, s)
+    if !is_open(s.frame) && starts(s, now) {
+        return open_frame(s);
+    }
+    s
 }

@@ -1,9 +1,10 @@
-// Rules 2 to 8 of one sample, over the capture state, by the sync pins, and by whether it pads a word (W4); by codes they are in the crate `coded_capture` (W6). A rule has the name of its definition, and an edge is cut by whether a sync blanks. The functions are for the
-// crates above, which call them on well-formed devices; each states its result as an equation with its definition.
+// Rules 2 to 8 of one sample, over the capture state, by the sync pins, and by whether it pads a word (W4); by codes they are in the crate `coded_capture` (W6). A rule has the
+// name of its definition, and an edge is cut by whether a sync blanks. The functions are for the crates above, which call them on well-formed devices; each states its result as an
+// equation with its definition.
+// No type holds `CaptureOk` or the bound on the rate counter: a device may be malformed, which `well_formed::malformed`, refusal 1 and the laws speak of, in the same type.
 #![tactic(auto)]
 
 ghost use Rattle.std.specs.Prelude.{cond, ◌≡◌, ◌+◌, ◌<◌, ◌^◌};
-ghost use Rattle.std.proofs.Math.Option.{none, some};
 ghost use Rattle.registers.specs.Control.{edm};
 ghost use Rattle.packing.specs.Packing.{Joins};
 ghost use Rattle.rules.specs.State as state;
@@ -23,18 +24,21 @@ use packing::{joined, per_word};
 use rules::{Capture, Frame, Partial, Pins, Registers, Scan, Syncs};
 use samples::{clock_pin, hsync_pin, pixel_data, vsync_pin};
 
-// The word that a sample fills by a datum, if it fills one.
-#[derive(Clone, Copy)]
-pub enum Word {
-    Nothing,
-    Full(u32),
-}
-
-// The state after a sample, and its word.
+// The state after a sample, and the word that the sample fills by a datum, if it fills one.
 #[derive(Clone, Copy)]
 pub struct Captured {
     pub state: Capture,
-    pub word: Word,
+    pub word: Option<u32>,
+}
+
+impl Captured {
+    // No word is filled. The functions below, in the loop over samples, do without it, the answer being put together in place: so the loop copies no struct (docs/SPEED.md).
+    #[tactic(auto, unfolding(rules::specs::Capture::no_word))]
+    pub fn no_word(state: Capture) -> Self
+        ensures { capture_answers.captured result ≡ capture_rules.no_word state }
+    {
+        Self { state, word: None }
+    }
 }
 
 // The same state, each field by itself: so the compiler keeps them apart (docs/SPEED.md).
@@ -72,7 +76,8 @@ pub fn apart(s: Capture) -> Capture
     }
 }
 
-// The state with another place in the open frame.
+// The state with another place in the open frame; field by field, as by `apart`.
+#[tactic(auto, unfolding(rules::specs::State::with_frame))]
 pub fn with_scan(taken: bool, f: Scan, s: Capture) -> Capture
     ensures { result ≡ state.with_frame (Open taken f) s }
 {
@@ -98,6 +103,7 @@ pub fn with_scan(taken: bool, f: Scan, s: Capture) -> Capture
 }
 
 // Rule 8: the datum joins the partial word, which is then partial still, or full.
+#[tactic(auto, unfolding(rules::specs::Capture::pack, rules::specs::Capture::packed_bits, rules::specs::Capture::no_word, rules::specs::State::with_partial))]
 pub fn pack(mut s: Capture, datum: u32) -> Captured
     requires { Joins (edm s.registers.cr) s.partial.count s.partial.bits datum }
     ensures { capture_answers.captured result ≡ capture_rules.pack s datum }
@@ -106,22 +112,21 @@ pub fn pack(mut s: Capture, datum: u32) -> Captured
     let bits = joined(edm, s.partial.count, s.partial.bits, datum);
     let count = s.partial.count + 1;
     if count < per_word(edm) {
-        let partial = Partial { count, bits };
-        s.partial = partial;
+        s.partial = Partial { count, bits };
         return Captured {
             state: s,
-            word: Word::Nothing,
+            word: None,
         };
     }
-    let empty = Partial { count: 0, bits: 0 };
-    s.partial = empty;
+    s.partial = Partial { count: 0, bits: 0 };
     Captured {
         state: s,
-        word: Word::Full(bits),
+        word: Some(bits),
     }
 }
 
-// Rules 6 to 8 at a pixel of an open frame, taken or not.
+// Rules 6 to 8 at a pixel of an open frame, taken or not: both as `Frame::Open` and the definitions have them, so that no struct of the two is put together at each pixel.
+#[tactic(auto, unfolding(rules::specs::Capture::pixel, rules::specs::Capture::no_word, rules::specs::State::with_frame))]
 fn pixel(s: Capture, taken: bool, f: Scan, datum: u32) -> Captured
     requires lines_bound { (f.lines + 1 < 2 ^ 32) × (f.pixels + 1 < 2 ^ 32) }
     requires joins { Joins (edm s.registers.cr) s.partial.count s.partial.bits datum }
@@ -135,11 +140,12 @@ fn pixel(s: Capture, taken: bool, f: Scan, datum: u32) -> Captured
     }
     Captured {
         state: placed,
-        word: Word::Nothing,
+        word: None,
     }
 }
 
 // Rule 6 where neither sync blanks: in an open frame the edge carries a pixel.
+#[tactic(auto, unfolding(rules::specs::Capture::pixel_in, rules::specs::Capture::no_word))]
 fn pixel_in(frame: Frame, s: Capture, datum: u32) -> Captured
     requires frame_bound { (lines frame + 1 < 2 ^ 32) × (pixels frame + 1 < 2 ^ 32) }
     requires joins { Joins (edm s.registers.cr) s.partial.count s.partial.bits datum }
@@ -148,13 +154,15 @@ fn pixel_in(frame: Frame, s: Capture, datum: u32) -> Captured
     match frame {
         Frame::Closed => Captured {
             state: s,
-            word: Word::Nothing,
+            word: None,
         },
         Frame::Open(taken, f) => pixel(s, taken, f, datum),
     }
 }
 
-// Rules 3 to 8 at a working edge at which neither sync blanks: no flag rises, no frame ends and no word is padded.
+// Rules 3 to 8 at a working edge at which neither sync blanks: no flag rises, no frame ends and no word is padded. The syncs are set one by one, here and below, as the
+// compiler keeps each field of the state by itself (docs/SPEED.md).
+#[tactic(auto, using(crate::proofs::Laws::plain_edge, crate::proofs::Laws::short_period), unfolding(rules::specs::State::with_syncs))]
 fn plain_edge(s: Capture, datum: u32) -> Captured
     requires { CaptureOk capture_answers.most_lines s }
     ensures { capture_answers.captured result ≡ unpadded_rules.unpadded_edge s state.not_blanking datum }
@@ -164,16 +172,14 @@ fn plain_edge(s: Capture, datum: u32) -> Captured
         vsync: false,
     };
     let started = frame::frame_start(s, now);
-    let frame = started.frame;
-    let c = pixel_in(frame, started, datum);
-    let word = c.word;
-    let mut state = c.state;
-    state.syncs.hsync = false;
-    state.syncs.vsync = false;
-    Captured { state, word }
+    let mut c = pixel_in(started.frame, started, datum);
+    c.state.syncs.hsync = false;
+    c.state.syncs.vsync = false;
+    c
 }
 
 // Rules 3 to 5 at a working edge at which a sync blanks: it carries no pixel.
+#[tactic(auto, unfolding(rules::specs::Capture::no_word, rules::specs::State::with_syncs))]
 fn blanked_edge(s: Capture, now: Syncs) -> Captured
     requires { CaptureOk capture_answers.most_lines s }
     ensures { capture_answers.captured result ≡ capture_rules.no_word (state.with_syncs now (capture_rules.frame_start (unpadded_rules.unpadded_end (capture_rules.sync_flags s now) now) now)) }
@@ -183,13 +189,11 @@ fn blanked_edge(s: Capture, now: Syncs) -> Captured
     let mut state = frame::frame_start(ended, now);
     state.syncs.hsync = now.hsync;
     state.syncs.vsync = now.vsync;
-    Captured {
-        state,
-        word: Word::Nothing,
-    }
+    Captured { state, word: None }
 }
 
 // Rule 2: the sample's levels are remembered.
+#[tactic(auto, unfolding(rules::specs::Capture::remember_pins, rules::specs::State::with_pins))]
 pub fn remember_pins(mut s: Capture, w: u32) -> Capture
     ensures { result ≡ capture_rules.remember_pins w s }
 {
@@ -203,6 +207,7 @@ pub fn remember_pins(mut s: Capture, w: u32) -> Capture
 }
 
 // Rules 2 to 8 of a sample that pads no word (W4), where FRAME rises by itself. Lines and pixels can be counted further by one.
+#[tactic(auto, using(crate::proofs::Laws::same_blanking, crate::proofs::Laws::edge_blanked, crate::proofs::Laws::neither), unfolding(rules::specs::Unpadded::unpadded_sample, rules::specs::Capture::no_word))]
 pub fn unpadded_sample(s: Capture, w: u32) -> Captured
     requires { CaptureOk capture_answers.most_lines s }
     ensures { capture_answers.captured result ≡ unpadded_rules.unpadded_sample s w }
@@ -218,44 +223,28 @@ pub fn unpadded_sample(s: Capture, w: u32) -> Captured
     }
     Captured {
         state: seen,
-        word: Word::Nothing,
+        word: None,
     }
 }
 
 // Rule 4, W4: with JPEG 1 a taken frame has a partial word to pad.
+#[tactic(auto, using(packing::proofs::Zeros::zero_filled_bits), unfolding(rules::specs::Capture::padded))]
 fn has_partial(frame: Frame, s: Capture) -> bool
-    ensures { capture_rules.padded frame s ≡ cond result (some s.partial.bits) none }
+    ensures { capture_rules.padded frame s ≡ cond result (Some s.partial.bits) None }
 {
-    match frame {
-        Frame::Closed => false,
-        Frame::Open(taken, _) => {
-            if taken {
-                if control::jpeg(s.registers.cr) {
-                    return s.partial.count > 0;
-                }
-                return false;
-            }
-            false
-        }
-    }
+    matches!(frame, Frame::Open(true, _)) && control::jpeg(s.registers.cr) && s.partial.count > 0
 }
 
 // Rule 4, W4: the sample ends a frame and pads its partial word.
+#[tactic(auto, unfolding(rules::specs::Capture::padded_at, rules::specs::Capture::frame_pads))]
 pub fn pads(s: Capture, w: u32) -> bool
-    ensures { capture_rules.padded_at s w ≡ cond result (some s.partial.bits) none }
+    ensures { capture_rules.padded_at s w ≡ cond result (Some s.partial.bits) None }
 {
-    if syncs::goes_on(s, w) {
-        let now = syncs::blanking(s, w);
-        if now.vsync {
-            let frame = s.frame;
-            return has_partial(frame, s);
-        }
-        return false;
-    }
-    false
+    syncs::goes_on(s, w) && syncs::blanking(s, w).vsync && has_partial(s.frame, s)
 }
 
 // Rules 2 to 5 of a sample that pads a word: no pixel is there, and FRAME is due.
+#[tactic(auto, using(crate::proofs::Laws::same_blanking), unfolding(crate::specs::Answers::ended, rules::specs::State::with_syncs))]
 pub fn padded_sample(s: Capture, w: u32) -> Capture
     requires { CaptureOk capture_answers.most_lines s }
     ensures { result ≡ capture_answers.ended s w }

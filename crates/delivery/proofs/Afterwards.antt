@@ -2,7 +2,7 @@
 -- own, with room for all words, and land every word; where each one really lands is told beside that. Assumes nothing.
 use mathlib.Core.Bool.{Bool, true, false, true≢false}
 use mathlib.Core.List.{List, [], ◌∷◌, ◌++◌, append-nil}
-use mathlib.Core.Option.{Option, none, some}
+use Rattle.std.specs.Prelude.{Option, None, Some}
 use mathlib.Core.Path.{◌≡◌, refl, sym, ◌∙◌}
 use Prim.Native.Nat.{ℕ, ◌+◌, ◌*◌, ◌≤◌}
 use native.Mathlib.Omega.{arith}
@@ -58,9 +58,9 @@ none_disabled s (w ∷ ws) off = go (capture_sample s w).word (word_enabled s w)
     rest : List (queue.Input ℕ)
     rest = inputs (next_capture s w) ws
 
-    go : (o : Option ℕ) → ((v : ℕ) → o ≡ some v → enabled s ≡ true) → queue.words rest ≡ [] → queue.words (record { grant = (input s w).grant; word = o } ∷ rest) ≡ []
-    go none on e = e
-    go (some v) on e = let z : ◌≡◌ {A = Bool} true false = sym (on v refl) ∙ off in absurd (true≢false z)
+    go : (o : Option ℕ) → ((v : ℕ) → o ≡ Some v → enabled s ≡ true) → queue.words rest ≡ [] → queue.words (record { grant = (input s w).grant; word = o } ∷ rest) ≡ []
+    go None on e = e
+    go (Some v) on e = let z : ◌≡◌ {A = Bool} true false = sym (on v refl) ∙ off in absurd (true≢false z)
 
 -- A device that was made has at least one place in its FIFO.
 deep : (depth : ℕ) → bad_depth depth ≡ false → 1 ≤ depth

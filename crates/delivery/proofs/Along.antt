@@ -2,7 +2,7 @@
 -- By induction on the samples. Assumes nothing.
 use mathlib.Core.Bool.{Bool, false}
 use mathlib.Core.List.{List, [], ◌∷◌, ◌++◌, append-nil}
-use mathlib.Core.Option.{some}
+use Rattle.std.specs.Prelude.{Some}
 use mathlib.Core.Path.{◌≡◌, refl, sym, ◌∙◌}
 use Prim.Native.Nat.{ℕ, ◌<◌}
 use lib.Seq.{append_snoc}
@@ -21,7 +21,7 @@ unfolding puts
 puts_snoc on o [] i = refl
 puts_snoc on o (j ∷ is) i = puts_snoc on (put on o j) is i
 
-pub last_fits : (on : Bool) (o : Out) (is : List (Input ℕ)) (i : Input ℕ) → Fits on o (is ++ i ∷ []) → (v : ℕ) → i.word ≡ some v
+pub last_fits : (on : Bool) (o : Out) (is : List (Input ℕ)) (i : Input ℕ) → Fits on o (is ++ i ∷ []) → (v : ℕ) → i.word ≡ Some v
     → (first_rule on (puts on o is) i).state.output.held < (first_rule on (puts on o is) i).state.output.depth
 unfolding puts
 last_fits on o [] i f = f.0

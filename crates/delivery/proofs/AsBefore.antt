@@ -2,7 +2,7 @@
 -- left alone. The idea: with one buffer the noted words are numbered 0, 1, 2 and so on, all in A. Assumes nothing.
 use mathlib.Core.Bool.{Bool, false}
 use mathlib.Core.List.{List, [], ◌∷◌, ◌++◌, append_assoc, append-nil}
-use mathlib.Core.Option.{Option, none, some}
+use Rattle.std.specs.Prelude.{Option, None, Some}
 use mathlib.Core.Path.{◌≡◌, refl, sym, ap, subst, ◌∙◌}
 use Prim.Native.Nat.{ℕ, zero, suc, ◌+◌, ◌-◌, ◌*◌, ◌≤◌}
 use native.Mathlib.Nat.{add-zero}
@@ -42,8 +42,8 @@ noted_in_line n k s (w ∷ ws) = go (capture_sample s w).word (λ j. noted_in_li
   where
     go : (o : Option ℕ) → ((j : ℕ) → InLine j (noted (n + 1) false (in_a j) (next_capture s w) ws))
         → InLine k (note (n + 1) (word_turn false (in_a k)) o ++ noted (n + 1) false (turn_after false (in_a k) o) (next_capture s w) ws)
-    go none rest = rest k
-    go (some v) rest = (refl, rest (k + 1))
+    go None rest = rest k
+    go (Some v) rest = (refl, rest (k + 1))
 
 take_in_line : (j k : ℕ) (ns : List Noted) → InLine k ns → InLine k (take j ns)
 take_in_line zero k ns l = tt
@@ -100,7 +100,7 @@ in_line x one k =
 -- Where all calls have one start, as they had, the premise of one start is met, whichever of them are refused.
 pub one_start_before : (t : Starts) (s : System) (cs : List Call) → All (λ c. starts_of c ≡ t) cs → OneStart t s cs
 one_start_before t s [] same = tt
-one_start_before t s (c ∷ cs) same = (λ some. same.0, one_start_before t (after_call s c) cs same.1)
+one_start_before t s (c ∷ cs) same = (λ Some. same.0, one_start_before t (after_call s c) cs same.1)
 
 -- The premise of room, as it was.
 pub room_before : (x : Scenario) → (configured x).two ≡ false → 4 * length (noted_by x (length (trace x))) ≤ length x.lent.a.memory - x.lent.a.start

@@ -2,7 +2,7 @@
 -- lets the next word open one. Assumes nothing.
 use mathlib.Core.Bool.{Bool, true, false, cond, ◌&&◌}
 use mathlib.Core.List.{List, [], ◌∷◌, ◌++◌, append-nil}
-use mathlib.Core.Option.{Option, none, some}
+use Rattle.std.specs.Prelude.{Option, None, Some}
 use mathlib.Core.Path.{◌≡◌, refl}
 use Prim.Native.Nat.{ℕ, ◌+◌}
 use lib.Dec.{eqb}
@@ -62,5 +62,5 @@ chain_landing two false l t (n ∷ ns) c = c
 pub chain_note : (two : Bool) (l t : Turn) (ns : List Noted) (i : ℕ) (o : Option ℕ) → Chain two l ns t
     → Chain two l (ns ++ note i (word_turn two t) o) (turn_after two t o)
 unfolding note turn_after
-chain_note two l t ns i none c = rw append-nil c
-chain_note two l t ns i (some v) c = chain_word two l t ns (record { word = v; sample = i; turn = word_turn two t }) refl c
+chain_note two l t ns i None c = rw append-nil c
+chain_note two l t ns i (Some v) c = chain_word two l t ns (record { word = v; sample = i; turn = word_turn two t }) refl c

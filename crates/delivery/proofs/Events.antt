@@ -1,7 +1,7 @@
 -- With two buffers (W2), what is kept after a sample at which no word is lost and ERR does not rise: a landing or none, a word or none, the end of a frame or not (`sample_tagged`). Assumes nothing.
 use mathlib.Core.Bool.{Bool, true, false, cond}
 use mathlib.Core.List.{List, [], ◌∷◌, ◌++◌, append-nil}
-use mathlib.Core.Option.{Option, none, some}
+use Rattle.std.specs.Prelude.{Option, None, Some}
 use mathlib.Core.Path.{◌≡◌, refl}
 use Prim.Native.Nat.{ℕ}
 use Rattle.buffers.specs.Story.{Event, ended}
@@ -29,8 +29,8 @@ landing_tagged false p k l t (n ∷ ns) g = g
 word_tagged : (o : Option ℕ) (i : ℕ) (k : Kept) (l t : Turn) (ns : List Noted) → Tagged k l ns t
     → Tagged (keeps k (word_event (answered o))) l (ns ++ note i (word_turn true t) o) (turn_after true t o)
 unfolding keeps note turn_after
-word_tagged none i k l t ns g = rw append-nil g
-word_tagged (some v) i k l t ns g = holds k l ns (record { word = v; sample = i; turn = word_turn true t }) t refl g
+word_tagged None i k l t ns g = rw append-nil g
+word_tagged (Some v) i k l t ns g = holds k l ns (record { word = v; sample = i; turn = word_turn true t }) t refl g
 
 end_tagged : (b : Bool) (k : Kept) (l t : Turn) (ns : List Noted) → Tagged k l ns t
     → Tagged (keeps k (cond b (ended ∷ []) [])) l ns (cond b (record { buffer = t.buffer; number = 0 }) t)

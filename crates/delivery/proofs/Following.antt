@@ -2,14 +2,16 @@
 -- oldest held word lands (`step_fits`). The idea: rules 1 and 9 read of place and frame buffer only whether there is room. Assumes nothing.
 use mathlib.Core.Bool.{Bool, true, false, cond, ◌&&◌}
 use mathlib.Core.List.{List, [], ◌∷◌}
-use mathlib.Core.Option.{Option, none, some}
+use Rattle.std.specs.Prelude.{Option, None, Some}
 use mathlib.Core.Path.{◌≡◌, refl, ap, ◌∙◌}
 use Prim.Native.Nat.{ℕ, ◌+◌, ◌*◌, ◌<◌}
 use native.Mathlib.Omega.{arith}
 use lib.Dec.{ltb}
 use lib.ListN.{length}
 use Rattle.output.specs.declared.Fate.TheVariants.{Held, Lost}
-use Rattle.output.specs.Output.{OutputState, contents, push, with_held, holding, with_counts, with_place, count_sample, count_word, count_landed, room, stored, Granted, no_landing, lands, oldest_lands, grant, Offered, offer, Packed, nothing, completed, counted}
+use Rattle.output.specs.Output.{OutputState, contents, push, with_held, holding, with_counts, with_place, count_sample, count_word, count_landed, room, stored, Granted, no_landing, lands, oldest_lands, grant, Offered, offer, counted}
+use Rattle.output.specs.declared.Packing.{Packing as Packed}
+use Rattle.output.specs.declared.Packing.TheVariants.{Nothing as nothing, Completed as completed}
 use Rattle.samples.specs.Samples.{bus_grant}
 use Rattle.landing.specs.Landing.{Out, first_rule, take_in, put}
 use Rattle.landing.proofs.Beside.{offer_held}
@@ -23,14 +25,14 @@ use Rattle.delivery.proofs.Inputs.{input}
 
 -- What a sample answers of its word where none is lost.
 abbrev pub answered : Option ℕ → Packed
-answered none = nothing
-answered (some v) = completed v
+answered None = nothing
+answered (Some v) = completed v
 
-complete_fits : (o : Option ℕ) (c : Captured) (x : OutputState) → c.error ≡ false → ((v : ℕ) → o ≡ some v → x.output.held < x.output.depth)
+complete_fits : (o : Option ℕ) (c : Captured) (x : OutputState) → c.error ≡ false → ((v : ℕ) → o ≡ Some v → x.output.held < x.output.depth)
     → complete o c x ≡ record { device = device (flagged c) (take_in o x); packed = answered o }
 unfolding complete after_word take_in
-complete_fits none c x quiet space = rw quiet
-complete_fits (some v) c x quiet space = let h : (offer v x).fate ≡ Held = ap (λ (r : Offered). r.fate) (offer_held v x (space v refl)) in rw h
+complete_fits None c x quiet space = rw quiet
+complete_fits (Some v) c x quiet space = let h : (offer v x).fate ≡ Held = ap (λ (r : Offered). r.fate) (offer_held v x (space v refl)) in rw h
 
 -- The output at another place.
 abbrev pub at_place : ℕ → OutputState → OutputState
@@ -38,20 +40,20 @@ at_place p x = record { output = with_place p x.output; slots = x.slots }
 
 -- The word that leaves, of the held ones, if the bus is granted; and what it does to a place and a frame buffer, and what is answered of it.
 abbrev pub leaving : Bool → List ℕ → Option ℕ
-leaving granted [] = none
-leaving granted (v ∷ vs) = cond granted (some v) none
+leaving granted [] = None
+leaving granted (v ∷ vs) = cond granted (Some v) None
 
 abbrev pub place_after : ℕ → Option ℕ → ℕ
-place_after p none = p
-place_after p (some v) = p + 1
+place_after p None = p
+place_after p (Some v) = p + 1
 
 abbrev pub buffer_after : ℕ → Option ℕ → List ℕ → List ℕ
-buffer_after p none b = b
-buffer_after p (some v) b = stored p v b
+buffer_after p None b = b
+buffer_after p (Some v) b = stored p v b
 
 abbrev pub byte_after : ℕ → Option ℕ → Option ℕ
-byte_after p none = none
-byte_after p (some v) = some (4 * p)
+byte_after p None = None
+byte_after p (Some v) = Some (4 * p)
 
 -- There is room for the oldest held word.
 abbrev pub Roomy : List ℕ → ℕ → List ℕ → Type 0
@@ -83,8 +85,8 @@ grant_placed g on x vs p b b' e here there = rw (same_contents p x, e) (go (g &&
 -- Rule 9 at another place.
 take_in_placed : (o : Option ℕ) (p : ℕ) (x : OutputState) → take_in o (at_place p x) ≡ at_place p (take_in o x)
 unfolding take_in offer holding with_held with_place count_word with_counts contents
-take_in_placed none p x = refl
-take_in_placed (some v) p x = go (ltb x.output.held x.output.depth)
+take_in_placed None p x = refl
+take_in_placed (Some v) p x = go (ltb x.output.held x.output.depth)
   where
     held : Offered
     held = record { state = holding (x.output.held + 1) (push v (contents x)) (count_word x.output); fate = Held }
@@ -102,7 +104,7 @@ take_in_placed (some v) p x = go (ltb x.output.held x.output.depth)
 -- One sample, ENABLE being on or not: `o` is the output beside the capture rules, with its own place and frame buffer, and holds the words vs.
 pub step_fits : {on : Bool} (s : Capture) (o : Out) (vs : List ℕ) (p : ℕ) (b : List ℕ) (w : ℕ) → enabled s ≡ on → (capture_sample s w).error ≡ false
     → contents o.state ≡ vs → Roomy vs o.state.output.place o.buffer → Roomy vs p b
-    → ((v : ℕ) → (capture_sample s w).word ≡ some v → (first_rule on o (input s w)).state.output.held < (first_rule on o (input s w)).state.output.depth)
+    → ((v : ℕ) → (capture_sample s w).word ≡ Some v → (first_rule on o (input s w)).state.output.held < (first_rule on o (input s w)).state.output.depth)
     → let l = leaving (bus_grant w && on) vs in
     step (placed p (device s o.state)) b w
     ≡ record {

@@ -1,7 +1,7 @@
 -- Samples as the queue sees them: whether each grants the bus, and the word that the capture rules note at it, if any. Their words and grants are the claim's. Assumes nothing.
 use mathlib.Core.Bool.{Bool, false, cond}
 use mathlib.Core.List.{List, [], ◌∷◌, ◌++◌}
-use mathlib.Core.Option.{Option, none, some}
+use Rattle.std.specs.Prelude.{Option, None, Some}
 use mathlib.Core.Path.{◌≡◌, refl, ap, ◌∙◌}
 use Prim.Native.Nat.{ℕ, zero, suc, ◌+◌}
 use lib.ListN.{length, take, drop, length-map}
@@ -76,8 +76,8 @@ inputs_words n two t s (w ∷ ws) = go (capture_sample s w).word (inputs_words (
 
     go : (o : Option ℕ) → queue.words (inputs next ws) ≡ words rest
         → queue.words (record { grant = bus_grant w; word = o } ∷ inputs next ws) ≡ words (note (n + 1) (word_turn two t) o ++ rest)
-    go none e = e
-    go (some v) e = ap (λ (r : List ℕ). v ∷ r) e
+    go None e = e
+    go (Some v) e = ap (λ (r : List ℕ). v ∷ r) e
 
 pub count_words : (two : Bool) (t : Turn) (s : Capture) (xs : List ℕ) → length (queue.words (inputs s xs)) ≡ length (noted 0 two t s xs)
 count_words two t s xs = rw (inputs_words 0 two t) (length-map (noted 0 two t s xs) (λ n. n.word))

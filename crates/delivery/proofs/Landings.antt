@@ -1,7 +1,7 @@
 -- What a landing does, where the words in order that have not landed are known: to the memories, and to the count of landed words. Assumes nothing.
 use mathlib.Core.Bool.{Bool, true, false, cond, ◌&&◌}
 use mathlib.Core.List.{List, [], ◌∷◌}
-use mathlib.Core.Option.{Option, none, some}
+use Rattle.std.specs.Prelude.{Option, None, Some}
 use mathlib.Core.Path.{◌≡◌, refl, sym}
 use Prim.Native.Nat.{ℕ, ◌+◌}
 use native.Mathlib.Nat.{add-zero}
@@ -60,5 +60,5 @@ rule_landed g on x b ns e space = rw e (go (g && on) ns (rw e at space))
 
 pub take_in_landed : (o : Option ℕ) (x : OutputState) → (take_in o x).output.counts.landed ≡ x.output.counts.landed
 unfolding take_in
-take_in_landed none x = refl
-take_in_landed (some v) x = (offer_untouched v x).landed
+take_in_landed None x = refl
+take_in_landed (Some v) x = (offer_untouched v x).landed

@@ -2,7 +2,7 @@
 -- and what is noted at the last sample (`last_noted`). By induction on the samples. Assumes nothing.
 use mathlib.Core.Bool.{Bool}
 use mathlib.Core.List.{List, [], ◌∷◌, ◌++◌, append_assoc}
-use mathlib.Core.Option.{Option, none, some}
+use Rattle.std.specs.Prelude.{Option, None, Some}
 use mathlib.Core.Path.{◌≡◌, refl, sym, ap, ◌∙◌}
 use Prim.Native.Nat.{ℕ, zero, suc, ◌+◌, ◌≤◌, ◌<◌}
 use native.Mathlib.Omega.{arith}
@@ -54,9 +54,9 @@ numbered n two t s (x ∷ xs) before w after e =
         → ((rest : List Noted) → noted (n + 1) two u (next_capture s x) xs ≡ rest ++ w ∷ after → Numbered (n + 1) next rest w)
         → note (n + 1) (word_turn two t) o ++ noted (n + 1) two u (next_capture s x) xs ≡ before ++ w ∷ after
         → (n < w.sample) × ((k : ℕ) → w.sample ≤ n + suc k → length before < length (note (n + 1) (word_turn two t) o ++ next k))
-    go none before ih e = let (later, far) = ih before e in (omega arith, λ k h. far k (omega arith))
-    go (some v) [] ih e = let at : w.sample ≡ n + 1 = cc in (omega arith, λ k h. omega arith)
-    go (some v) (b ∷ rest) ih e = let (later, far) = ih rest (cc) in (omega arith, λ k h. omega (arith, far k (omega arith)))
+    go None before ih e = let (later, far) = ih before e in (omega arith, λ k h. far k (omega arith))
+    go (Some v) [] ih e = let at : w.sample ≡ n + 1 = cc in (omega arith, λ k h. omega arith)
+    go (Some v) (b ∷ rest) ih e = let (later, far) = ih rest (cc) in (omega arith, λ k h. omega (arith, far k (omega arith)))
 
     reach : n < w.sample → ((k : ℕ) → w.sample ≤ n + suc k → length before < length (note (n + 1) (word_turn two t) (capture_sample s x).word ++ next k))
         → (k : ℕ) → w.sample ≤ n + k → length before < length (noted n two t s (take k (x ∷ xs)))
@@ -66,13 +66,13 @@ numbered n two t s (x ∷ xs) before w after e =
 -- An entry with a smaller number is passed over.
 pass_note : (k m : ℕ) (t : Turn) (o : Option ℕ) (rest : List Noted) → m < k → noted_at k (note m t o ++ rest) ≡ noted_at k rest
 unfolding note noted_at
-pass_note k m t none rest h = refl
-pass_note k m t (some v) rest h = rw (ne_eqb m k (omega arith))
+pass_note k m t None rest h = refl
+pass_note k m t (Some v) rest h = rw (ne_eqb m k (omega arith))
 
 at_own : (k : ℕ) (t : Turn) (o : Option ℕ) → noted_at k (note k t o ++ []) ≡ answered o
 unfolding note noted_at
-at_own k t none = refl
-at_own k t (some v) = rw (eq-eqb k k refl)
+at_own k t None = refl
+at_own k t (Some v) = rw (eq-eqb k k refl)
 
 pub last_noted : (n : ℕ) (two : Bool) (t : Turn) (s : Capture) (xs : List ℕ) (w : ℕ)
     → noted_at (n + length xs + 1) (noted n two t s (xs ++ w ∷ [])) ≡ answered (capture_sample (captures s xs) w).word

@@ -2,7 +2,7 @@
 -- sample says what its step answers. Assumes nothing.
 use mathlib.Core.Bool.{Bool, true, false, cond, not, ◌||◌}
 use mathlib.Core.List.{List, [], ◌∷◌, ◌++◌}
-use mathlib.Core.Option.{none, some}
+use Rattle.std.specs.Prelude.{None, Some}
 use mathlib.Core.Path.{◌≡◌, refl, sym, ap, ◌∙◌}
 use Prim.Native.Nat.{ℕ, ◌≤◌}
 use native.Mathlib.Omega.{arith}
@@ -17,13 +17,15 @@ use Rattle.run_refusals.specs.RunRefusals.{run_tests}
 use Rattle.run_refusals.proofs.Passed.{passed as run_passed}
 use Rattle.rules.specs.declared.Device.{Device}
 use Rattle.rules.specs.WellFormed as device_clauses
-use Rattle.output.specs.Output.{Packed, SampleAnswer}
+use Rattle.output.specs.declared.Packing.{Packing as Packed}
+use Rattle.output.specs.declared.SampleAnswer.{SampleAnswer}
 use Rattle.rules.specs.Run.{steps, run_refusal}
 use Rattle.rules.specs.Run as run_rules
 use Rattle.board_rules.specs.declared.Board.{Board}
 use Rattle.board_rules.specs.State.{is_two, malformed}
 use Rattle.board_rules.specs.TwoBuffers.{with_part, two_steps}
-use Rattle.board_rules.specs.BoardRuns.{Both, beyond, memories, filled, one_refusal, two_refusal, opened, TwoAnswer}
+use Rattle.board_rules.specs.BoardRuns.{Both, beyond, memories, filled, one_refusal, two_refusal, opened}
+use Rattle.board_rules.specs.declared.TwoAnswer.{TwoAnswer}
 use Rattle.board_rules.specs.BoardRuns as board_runs
 use Rattle.delivery.proofs.Sampling.{sampled, packs, one_steps, as_one, Reaching, many_steps, as_two}
 use Rattle.delivery.specs.Calls.{one_memory, two_memories, Call, a_run, a_sample, starts_of, brings, System, lending, refusal_of, refusal, accepted, after_call, said, said_two, says}
@@ -95,7 +97,7 @@ after_call_is s (a_sample (one_memory start) w) = one_call start s (w ∷ []) _ 
 after_call_is s (a_run (two_memories start_a start_b) ws) = two_call start_a start_b s ws _ refl
 after_call_is s (a_sample (two_memories start_a start_b) w) = two_call start_a start_b s (w ∷ []) _ refl
 
-pub none_some : {p : Packed} → none ≡ some p → ⊥
+pub none_some : {p : Packed} → None ≡ Some p → ⊥
 none_some e = let z : ◌≡◌ {A = ℕ} 0 1 = cc in omega arith
 
 -- A call that says something is one accepted sample, and says what its step answers.
@@ -104,17 +106,17 @@ pub record Says (s : System) (c : Call) (p : Packed) : Type 0 where
   pub accepted : accepted s c ≡ sample ∷ []
   pub packed : p ≡ packs (starts_of c) s sample
 
-chosen_says : (b : Bool) (number : ℕ) (r : SampleAnswer) (p : Packed) → said (cond b (answered r) (refused number)) ≡ some p → (b ≡ true) × (p ≡ r.packed)
+chosen_says : (b : Bool) (number : ℕ) (r : SampleAnswer) (p : Packed) → said (cond b (answered r) (refused number)) ≡ Some p → (b ≡ true) × (p ≡ r.packed)
 unfolding said
 chosen_says true number r p e = (refl, cc)
 chosen_says false number r p e = absurd (none_some e)
 
-chosen_two : (b : Bool) (number : ℕ) (r : TwoAnswer) (p : Packed) → said_two (cond b (answered r) (refused number)) ≡ some p → (b ≡ true) × (p ≡ r.packed)
+chosen_two : (b : Bool) (number : ℕ) (r : TwoAnswer) (p : Packed) → said_two (cond b (answered r) (refused number)) ≡ Some p → (b ≡ true) × (p ≡ r.packed)
 unfolding said_two
 chosen_two true number r p e = (refl, cc)
 chosen_two false number r p e = absurd (none_some e)
 
-pub call_says : (s : System) (c : Call) (p : Packed) → says s c ≡ some p → Says s c p
+pub call_says : (s : System) (c : Call) (p : Packed) → says s c ≡ Some p → Says s c p
 unfolding says accepted refusal_of packs board_runs.sample board_runs.sample_two
 call_says s (a_run t ws) p e = absurd (none_some e)
 call_says s (a_sample (one_memory start) w) p e =

@@ -1,13 +1,13 @@
 -- A list of calls whose accepted samples have one start is the list of these samples: each moment is that after a first part of them (`Reached`). By induction on the calls. Assumes nothing.
 use mathlib.Core.Bool.{Bool, true, false, cond}
 use mathlib.Core.List.{List, [], ◌∷◌, ◌++◌, append_assoc, append-nil}
-use mathlib.Core.Option.{Option, none, some}
+use Rattle.std.specs.Prelude.{Option, None, Some}
 use mathlib.Core.Path.{◌≡◌, refl, ap, ◌∙◌}
 use Prim.Native.Nat.{ℕ, ◌+◌, ◌<◌}
 use native.Mathlib.Omega.{arith}
 use lib.ListN.{length, length-append}
 use lib.Seq.{append_snoc}
-use Rattle.output.specs.Output.{Packed}
+use Rattle.output.specs.declared.Packing.{Packing as Packed}
 use Rattle.delivery.specs.Calls.{Starts, Call, starts_of, brings, System, accepted, after_call, samples, says, stepped, Moment, moment, moments_inside, moments}
 use Rattle.delivery.specs.Delivery.{All, OneStart}
 use Rattle.delivery.proofs.Alls.{all_append}
@@ -45,7 +45,7 @@ module _ (t : Starts) (s₀ : System) where
     pub split : xs ≡ before ++ last ∷ []
     pub packed : p ≡ packs t (sampled t s₀ before) last
 
-  says_answered : (xs : List ℕ) (s : System) (c : Call) → Same_start s c → s ≡ sampled t s₀ xs → (p : Packed) → says s c ≡ some p → Answered (xs ++ accepted s c) p
+  says_answered : (xs : List ℕ) (s : System) (c : Call) → Same_start s c → s ≡ sampled t s₀ xs → (p : Packed) → says s c ≡ Some p → Answered (xs ++ accepted s c) p
   says_answered xs s c same a p e =
       let q = call_says s c p e in
       let one : starts_of c ≡ t = same (rw q.accepted (omega arith)) in
@@ -59,10 +59,10 @@ module _ (t : Starts) (s₀ : System) where
     pub board : m.board ≡ (sampled t s₀ so_far).board
     pub memories : m.memories ≡ (sampled t s₀ so_far).memories
     pub count : m.count ≡ length so_far
-    pub answers : (p : Packed) → m.packed ≡ some p → Answered so_far p
+    pub answers : (p : Packed) → m.packed ≡ Some p → Answered so_far p
 
   reached : (xs zs : List ℕ) (n : ℕ) (s : System) (o : Option Packed) → n ≡ length xs → s ≡ sampled t s₀ xs
-      → ((p : Packed) → o ≡ some p → Answered xs p) → Reached (xs ++ zs) (moment s n o)
+      → ((p : Packed) → o ≡ Some p → Answered xs p) → Reached (xs ++ zs) (moment s n o)
   reached xs zs n s o e a said =
       record {
         so_far = xs;
@@ -81,7 +81,7 @@ module _ (t : Starts) (s₀ : System) where
   inside_reached xs (w ∷ ws) zs n s e a =
       let next : n + 1 ≡ length (xs ++ w ∷ []) = rw length-append (omega arith) in
       let a' : stepped t s w ≡ sampled t s₀ (xs ++ w ∷ []) = rw (sampled_append t s₀ xs (w ∷ []), ← a) in (
-        rw append_snoc at (reached (xs ++ w ∷ []) (ws ++ zs) (n + 1) (stepped t s w) none next a' (λ p o. absurd (none_some o))),
+        rw append_snoc at (reached (xs ++ w ∷ []) (ws ++ zs) (n + 1) (stepped t s w) None next a' (λ p o. absurd (none_some o))),
         rw append_snoc at (inside_reached (xs ++ w ∷ []) ws zs (n + 1) (stepped t s w) next a'),
       )
 

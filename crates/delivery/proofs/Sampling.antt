@@ -8,7 +8,7 @@ use lib.ListN.{length, take, drop, take-append-drop}
 use lib.Seq.{length-take-le, take_at, drop_at}
 use Rattle.buffers.specs.declared.Buffer.TheVariants.{A}
 use Rattle.rules.specs.declared.Device.{Device}
-use Rattle.output.specs.Output.{Packed}
+use Rattle.output.specs.declared.Packing.{Packing as Packed}
 use Rattle.rules.specs.Run.{step, steps}
 use Rattle.board_rules.specs.declared.Mode.{Mode}
 use Rattle.board_rules.specs.declared.Mode.TheVariants.{One, Two}

@@ -7,8 +7,7 @@ use Prim.Native.Nat.{ℕ}
 use native.Mathlib.Omega.{arith}
 use lib.Dec.{eqb}
 use Rattle.registers.specs.Map.{register_at}
-use Rattle.registers.specs.declared.Found.{Found}
-use Rattle.registers.specs.declared.Found.TheVariants.{At, Nothing}
+use Rattle.std.specs.Prelude.{Option, Some, None}
 use Rattle.refusals.specs.Refusals.{first}
 use Rattle.buffers.specs.Turns as turn_rules
 use Rattle.output.specs.Output.{OutputState, with_held, holding, with_place, fresh_output, with_counts, count_discarded, discard}
@@ -32,14 +31,15 @@ use Rattle.board_rules.specs.State.{bad_turns}
 use Rattle.board_rules.specs.State as board_state
 use Rattle.board_rules.specs.BoardCalls as board_calls
 use Rattle.delivery.specs.Calls.{SetUpCall, a_write, one_buffer, two_buffers, after_set_up, after_set_ups}
+use Rattle.registers.specs.declared.Register.{Register}
 use Rattle.delivery.specs.Noted.{write_found, noted_write, Configured, with_mode, noted_set_up, noted_set_ups}
 
 module _ (depth : ℕ) where
   -- The effect of a write. Where ENABLE falls, no word is held, and none is discarded.
-  write_at_is : (r : Found) (v : ℕ) (s : Capture) → write_at (device s (fresh_output depth)) r v ≡ device (write_found r v s) (fresh_output depth)
+  write_at_is : (r : Option Register) (v : ℕ) (s : Capture) → write_at (device s (fresh_output depth)) r v ≡ device (write_found r v s) (fresh_output depth)
   unfolding write_at write_found discard fresh_output holding with_held count_discarded with_counts
-  write_at_is Nothing v s = refl
-  write_at_is (At r) v s =
+  write_at_is None v s = refl
+  write_at_is (Some r) v s =
       either (λ (x : OutputState). device (write_register r v s) x ≡ device (write_register r v s) (fresh_output depth)) (disables s.registers.cr r v) refl refl
 
   -- A write, accepted or refused: of a well-formed device the register tests alone refuse it.
@@ -48,7 +48,7 @@ module _ (depth : ℕ) where
   unfolding write write_refusal noted_write
   write_is s offset v formed = rw formed (go (eqb (first (register_tests s.registers.cr (register_at offset) v)) 0))
     where
-      r : Found
+      r : Option Register
       r = register_at offset
 
       d : Device
@@ -62,10 +62,10 @@ module _ (depth : ℕ) where
 abbrev NoFlag : Capture → Type 0
 NoFlag s = s.registers.ris ≡ 0
 
-found_flag : (r : Found) (v : ℕ) (s : Capture) → NoFlag s → NoFlag (write_found r v s)
+found_flag : (r : Option Register) (v : ℕ) (s : Capture) → NoFlag s → NoFlag (write_found r v s)
 unfolding write_found
-found_flag Nothing v s h = h
-found_flag (At r) v s h = write_flags (λ x. x ≡ 0) (λ x y e. omega arith) v s h r
+found_flag None v s h = h
+found_flag (Some r) v s h = write_flags (λ x. x ≡ 0) (λ x y e. omega arith) v s h r
 
 write_flag : (s : Capture) (offset v : ℕ) → NoFlag s → NoFlag (noted_write s offset v)
 unfolding noted_write

@@ -3,7 +3,7 @@
 -- anew. With ESS 1 the bytes that wait count beside the data (W6, crate laws, `pace`). Assumes nothing.
 use mathlib.Core.Bool.{Bool, true, false, cond, not, ◌&&◌, beq, false≢true}
 use mathlib.Core.List.{List, [], ◌∷◌}
-use mathlib.Core.Option.{Option, none, some}
+use Rattle.std.specs.Prelude.{Option, None, Some}
 use mathlib.Core.Path.{◌≡◌, refl, sym, ap, ◌∙◌}
 use Prim.Native.Nat.{ℕ, zero, suc, ◌+◌, ◌*◌, ◌/◌, ◌%◌, ◌≤◌, ◌<◌}
 use native.Mathlib.Omega.{arith}
@@ -72,8 +72,8 @@ spacing_edges cr = go (eqb (edm cr) 0) (jpeg cr) (embedded cr)
     go false false false = refl
 
 twice : (q p p' : ℕ) (o : Option ℕ) → Paced q p p' o → Paced (2 * q) (2 * p + 1) (2 * p' + 0) o
-twice q p p' none h = omega arith
-twice q p p' (some v) h = (omega arith, omega arith)
+twice q p p' None h = omega arith
+twice q p p' (Some v) h = (omega arith, omega arith)
 
 abbrev Steady : Capture → Captured → Type 0
 Steady s c = Paced (spacing s.registers.cr) (reached s) (reached c.state) c.word
@@ -149,8 +149,8 @@ rare q s (w ∷ ws) a e h =
         → (length (words (inputs next ws)) ≤ 1) × (length ws + reached next < q → length (words (inputs next ws)) ≡ 0)
         → let is : List (Input ℕ) = record { grant = bus_grant w; word = o } ∷ inputs next ws in
         (length (words is) ≤ 1) × (length (w ∷ ws) + reached s < q → length (words is) ≡ 0)
-    go none p (one, early) = (one, λ l. early (omega arith))
-    go (some v) p (one, early) = (omega (arith, early (omega arith)), λ l. absurd (omega arith))
+    go None p (one, early) = (one, λ l. early (omega arith))
+    go (Some v) p (one, early) = (omega (arith, early (omega arith)), λ l. absurd (omega arith))
 
 spaced_by : (q : ℕ) (s : Capture) (xs : List ℕ) → Accepted s.registers.cr → spacing s.registers.cr ≡ q → Spaced q (inputs s xs)
 unfolding inputs

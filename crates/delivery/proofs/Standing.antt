@@ -2,7 +2,7 @@
 -- next one lands is known (`Standing`). So there is room for it. Assumes nothing.
 use mathlib.Core.Bool.{Bool, true, false, false≢true}
 use mathlib.Core.List.{List, [], ◌∷◌, ◌++◌}
-use mathlib.Core.Option.{some}
+use Rattle.std.specs.Prelude.{Some}
 use mathlib.Core.Path.{◌≡◌, refl, sym, ap, subst, ◌∙◌}
 use Prim.Native.Nat.{ℕ, ◌+◌, ◌-◌, ◌*◌, ◌≤◌, ◌<◌}
 use native.Mathlib.Omega.{arith}
@@ -70,7 +70,7 @@ pub record Fair (on : Bool) (c : Capture) (o : Out) (w : ℕ) : Type 0 where
   pub enabled : enabled c ≡ on
   pub quiet : (capture_sample c w).error ≡ false
   pub roomy : (vs : List ℕ) → contents o.state ≡ vs → Roomy vs o.state.output.place o.buffer
-  pub space : (v : ℕ) → (capture_sample c w).word ≡ some v → (first_rule on o (input c w)).state.output.held < (first_rule on o (input c w)).state.output.depth
+  pub space : (v : ℕ) → (capture_sample c w).word ≡ Some v → (first_rule on o (input c w)).state.output.held < (first_rule on o (input c w)).state.output.depth
 
 -- Room in the real frame buffer.
 pub within : (x : Scenario) (u : Buffer) (n : Noted) → Room x n → Within u (lent u x.lent).start (length (lent u x.lent).memory) n

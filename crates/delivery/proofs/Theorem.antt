@@ -9,7 +9,8 @@ use lib.ListN.{length, take, drop, length-append}
 use lib.Seq.{append_snoc, take_at}
 use Rattle.buffers.specs.declared.Buffer.{Buffer}
 use Rattle.buffers.specs.declared.Buffer.TheVariants.{A, B}
-use Rattle.output.specs.Output.{usual_depth, bytes, contents, with_place, Packed}
+use Rattle.output.specs.Output.{usual_depth, bytes, contents, with_place}
+use Rattle.output.specs.declared.Packing.{Packing as Packed}
 use Rattle.output.specs.WellFormed.{bad_depth}
 use Rattle.rules.specs.State.{device}
 use Rattle.rules.specs.RegisterCalls.{placed}

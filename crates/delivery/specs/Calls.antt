@@ -1,15 +1,16 @@
 -- Lists of calls, one after the other: set-up calls from reset, then runs and single samples over one memory or two (W2), refused calls included. Each call gets
 -- the board and the memories that the last one left, and brings its own start byte, or bytes.
-use Rattle.std.specs.Prelude.{cond, List, [], ◌∷◌, ◌++◌, ℕ, ◌+◌, ◌<◌, ◌^◌, eqb, length, take, drop}
-use Rattle.std.proofs.Math.Option.{Option, none, some}
+use Rattle.std.specs.Prelude.{cond, List, [], ◌∷◌, ◌++◌, ℕ, ◌+◌, ◌<◌, ◌^◌, eqb, length, take, drop, Option, None, Some}
 use Rattle.buffers.specs.declared.Buffer.TheVariants.{A}
 use Rattle.refusals.specs.Refusals.{Answer, refused, answered}
-use Rattle.output.specs.Output.{Packed, SampleAnswer}
+use Rattle.output.specs.declared.Packing.{Packing as Packed}
+use Rattle.output.specs.declared.SampleAnswer.{SampleAnswer}
 use Rattle.rules.specs.Run.{step}
 use Rattle.board_rules.specs.declared.Board.{Board}
 use Rattle.board_rules.specs.TwoBuffers.{Pair, with_part, two_step}
 use Rattle.board_rules.specs.BoardCalls as board_calls
-use Rattle.board_rules.specs.BoardRuns.{Both, opened, filled, one_refusal, two_refusal, TwoAnswer}
+use Rattle.board_rules.specs.BoardRuns.{Both, opened, filled, one_refusal, two_refusal}
+use Rattle.board_rules.specs.declared.TwoAnswer.{TwoAnswer}
 use Rattle.board_rules.specs.BoardRuns as board_runs
 
 -- A set-up call: a register write, whose value is a 32-bit number; or a mode change (W2).
@@ -95,15 +96,15 @@ samples s (c ∷ cs) = accepted s c ++ samples (after_call s c) cs
 
 -- What an accepted single sample says of its word; nothing to say of a run or a refused call.
 unfoldable pub said : Answer SampleAnswer → Option Packed
-said (refused number) = none
-said (answered a) = some a.packed
+said (refused number) = None
+said (answered a) = Some a.packed
 
 unfoldable pub said_two : Answer TwoAnswer → Option Packed
-said_two (refused number) = none
-said_two (answered a) = some a.packed
+said_two (refused number) = None
+said_two (answered a) = Some a.packed
 
 unfoldable pub says : System → Call → Option Packed
-says s (a_run t ws) = none
+says s (a_run t ws) = None
 says s (a_sample (one_memory start) w) = said (board_runs.sample s.board s.memories.a start w).answer
 says s (a_sample (two_memories start_a start_b) w) = said_two (board_runs.sample_two s.board (lending start_a start_b s.memories) w).answer
 
@@ -130,7 +131,7 @@ moment s n p = record { board = s.board; memories = s.memories; count = n; packe
 -- The moments inside an accepted call: after each of its samples.
 unfoldable pub moments_inside : Starts → System → ℕ → List ℕ → List Moment
 moments_inside t s n [] = []
-moments_inside t s n (w ∷ ws) = moment (stepped t s w) (n + 1) none ∷ moments_inside t (stepped t s w) (n + 1) ws
+moments_inside t s n (w ∷ ws) = moment (stepped t s w) (n + 1) None ∷ moments_inside t (stepped t s w) (n + 1) ws
 
 -- Every moment of a list of calls, n samples being accepted before: after each sample inside an accepted call, and after each call.
 unfoldable pub moments : System → ℕ → List Call → List Moment

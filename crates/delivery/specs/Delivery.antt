@@ -1,11 +1,11 @@
 -- Demand 3, as document 01's last section spells it out, over the depth d and the spacing s (W9) and both buffer modes (W2): its premises and its promises.
-use Rattle.std.specs.Prelude.{Bool, true, false, cond, ◌&&◌, List, [], ◌∷◌, ◌++◌, map, ◌≡◌, ℕ, ◌+◌, ◌*◌, ◌≤◌, ◌<◌, eqb, length, take, drop}
-use Rattle.std.proofs.Math.Option.{none, some}
+use Rattle.std.specs.Prelude.{Bool, true, false, cond, ◌&&◌, List, [], ◌∷◌, ◌++◌, map, ◌≡◌, ℕ, ◌+◌, ◌*◌, ◌≤◌, ◌<◌, eqb, length, take, drop, None, Some}
 use Rattle.bits.specs.Bits.{bit}
 use Rattle.buffers.specs.declared.Buffer.{Buffer}
 use Rattle.buffers.specs.Story.{same_buffer}
 use Rattle.rules.specs.State.{output_of}
-use Rattle.output.specs.Output.{Packed, bytes, contents}
+use Rattle.output.specs.Output.{bytes, contents}
+use Rattle.output.specs.declared.Packing.{Packing as Packed}
 use Rattle.samples.specs.Samples.{bus_grant}
 use Rattle.output.specs.WellFormed.{bad_depth}
 use Rattle.board_rules.specs.declared.Board.{Board}
@@ -116,11 +116,11 @@ pub record Promised (x : Scenario) (m : Moment) : Type 0 where
       All (Elsewhere w) after →
       take 4 (drop (standing_at (lent w.turn.buffer x.lent).start w) (part w.turn.buffer m.memories)) ≡ bytes w.word
   -- An accepted single sample says the word noted at it, or none, and never a lost one.
-  pub answers : (p : Packed) → m.packed ≡ some p → p ≡ noted_at m.count (noted_by x m.count)
+  pub answers : (p : Packed) → m.packed ≡ Some p → p ≡ noted_at m.count (noted_by x m.count)
 
 -- A moment before the first sample: no word is said, and the memories are those first lent.
 abbrev pub unsampled : Scenario → Board → Moment
-unsampled x b = record { board = b; memories = memories x.lent; count = 0; packed = none }
+unsampled x b = record { board = b; memories = memories x.lent; count = 0; packed = None }
 
 -- The moments: of the fresh board and after each set-up call, then those of the runs and single samples.
 abbrev pub all_moments : Scenario → List Moment

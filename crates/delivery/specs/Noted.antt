@@ -1,11 +1,8 @@
 -- The words of the claim, from the inputs alone: the register rules and rules 2 to 8, over the accepted writes, mode changes (W2) and samples from reset,
 -- without grants or FIFO, note each full word with its sample's number, its buffer and its number there.
-use Rattle.std.specs.Prelude.{Bool, true, false, cond, not, ◌&&◌, ◌||◌, List, [], ◌∷◌, ◌++◌, map, ℕ, ◌+◌, eqb}
-use Rattle.std.proofs.Math.Option.{Option, none, some}
+use Rattle.std.specs.Prelude.{Bool, true, false, cond, not, ◌&&◌, ◌||◌, List, [], ◌∷◌, ◌++◌, map, ℕ, ◌+◌, eqb, Option, None, Some}
 use Rattle.registers.specs.Control.{jpeg, embedded, edm}
 use Rattle.registers.specs.Map.{register_at}
-use Rattle.registers.specs.declared.Found.{Found}
-use Rattle.registers.specs.declared.Found.TheVariants.{At, Nothing}
 use Rattle.buffers.specs.declared.Buffer.{Buffer}
 use Rattle.buffers.specs.declared.Buffer.TheVariants.{A, B}
 use Rattle.buffers.specs.Turns.{other}
@@ -13,15 +10,17 @@ use Rattle.rules.specs.declared.Capture.{Capture}
 use Rattle.rules.specs.Capture.{Captured, enabled}
 use Rattle.refusals.specs.Refusals.{first}
 use Rattle.rules.specs.Sample.{capture_sample, next_capture}
-use Rattle.output.specs.Output.{Packed, nothing, completed}
+use Rattle.output.specs.declared.Packing.{Packing as Packed}
+use Rattle.output.specs.declared.Packing.TheVariants.{Nothing as nothing, Completed as completed}
 use Rattle.rules.specs.RegisterCalls.{register_tests, write_register}
 use Rattle.board_rules.specs.TwoBuffers.{has_closed}
+use Rattle.registers.specs.declared.Register.{Register}
 use Rattle.delivery.specs.Calls.{SetUpCall, a_write, one_buffer, two_buffers}
 
 -- A register write by the register rules alone: refused by 2 to 6, or its effect.
-unfoldable pub write_found : Found → ℕ → Capture → Capture
-write_found Nothing v s = s
-write_found (At r) v s = write_register r v s
+unfoldable pub write_found : Option Register → ℕ → Capture → Capture
+write_found None v s = s
+write_found (Some r) v s = write_register r v s
 
 unfoldable pub noted_write : Capture → ℕ → ℕ → Capture
 noted_write s offset v =
@@ -61,8 +60,8 @@ unfoldable pub word_turn : Bool → Turn → Turn
 word_turn two t = cond (two && eqb t.number 0) (record { buffer = other t.buffer; number = 0 }) t
 
 unfoldable pub turn_after : Bool → Turn → Option ℕ → Turn
-turn_after two t none = t
-turn_after two t (some v) = record { buffer = (word_turn two t).buffer; number = (word_turn two t).number + 1 }
+turn_after two t None = t
+turn_after two t (Some v) = record { buffer = (word_turn two t).buffer; number = (word_turn two t).number + 1 }
 
 -- After a sample: its word, and then the end of its frame.
 unfoldable pub next_turn : Bool → Turn → Capture → Captured → Turn
@@ -77,8 +76,8 @@ pub record Noted : Type 0 where
   pub turn : Turn
 
 unfoldable pub note : ℕ → Turn → Option ℕ → List Noted
-note n t none = []
-note n t (some v) = record { word = v; sample = n; turn = t } ∷ []
+note n t None = []
+note n t (Some v) = record { word = v; sample = n; turn = t } ∷ []
 
 -- The words noted from a state at some samples, n samples being before them. No word is lost, so that FRAME rises where it is due.
 unfoldable pub noted : ℕ → Bool → Turn → Capture → List ℕ → List Noted

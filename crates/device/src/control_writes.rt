@@ -1,6 +1,5 @@
 // What an accepted register write does to the capture state and to the FIFO ("Writing CR").
 ghost use Rattle.std.specs.Prelude.{◌≡◌, ◌+◌, ◌<◌, ◌^◌};
-ghost use Rattle.registers.specs.declared.Found.TheVariants.{At};
 ghost use Rattle.rules.specs.RegisterCalls as register_rules;
 
 use capture::frame::is_open;
@@ -11,82 +10,62 @@ use registers::Register;
 use rules::{Capture, Core, Device, Frame, Partial, Registers, Syncs};
 
 // ENABLE 0 to 1.
+#[tactic(auto, unfolding(rules::specs::RegisterCalls::enabling, rules::specs::State::with_rate, rules::specs::State::with_frame, rules::specs::State::with_syncs, rules::specs::State::with_waiting))]
 fn enabling(s: Capture) -> Capture
     ensures { result ≡ register_rules.enabling s }
 {
-    let registers = s.registers;
-    let pins = s.pins;
-    let partial = s.partial;
     Capture {
-        registers,
-        pins,
         syncs: Syncs {
             hsync: false,
             vsync: false,
         },
         frame: Frame::Closed,
         rate: 0,
-        partial,
         waiting: Waiting::Zero,
+        ..s
     }
 }
 
 // ENABLE 1 to 0.
+#[tactic(auto, unfolding(rules::specs::RegisterCalls::disabling, rules::specs::State::close_frame, rules::specs::State::with_rate, rules::specs::State::with_frame, rules::specs::State::with_partial, rules::specs::State::with_waiting))]
 fn disabling(s: Capture) -> Capture
     ensures { result ≡ register_rules.disabling s }
 {
-    let registers = s.registers;
-    let pins = s.pins;
-    let syncs = s.syncs;
     Capture {
-        registers,
-        pins,
-        syncs,
         frame: Frame::Closed,
         rate: 0,
         partial: Partial { count: 0, bits: 0 },
         waiting: Waiting::Zero,
+        ..s
     }
 }
 
+#[tactic(auto, unfolding(rules::specs::RegisterCalls::switch_enable))]
 fn switch_enable(v: u32, s: Capture) -> Capture
     ensures { result ≡ register_rules.switch_enable v s }
 {
-    if control::enable(s.registers.cr) {
-        if control::enable(v) {
-            return s;
-        }
-        return disabling(s);
+    match (control::enable(s.registers.cr), control::enable(v)) {
+        (true, false) => disabling(s),
+        (false, true) => enabling(s),
+        _ => s,
     }
-    if control::enable(v) {
-        return enabling(s);
-    }
-    s
 }
 
+#[tactic(auto, unfolding(rules::specs::RegisterCalls::capture_rises))]
 fn capture_rises(v: u32, s: Capture) -> bool
     ensures { result ≡ register_rules.capture_rises v s }
 {
-    let frame = s.frame;
-    if control::capture(s.registers.cr) {
-        return false;
-    }
-    if control::capture(v) {
-        return !is_open(frame);
-    }
-    false
+    !control::capture(s.registers.cr) && control::capture(v) && !is_open(s.frame)
 }
 
-fn switch_capture(rises: bool, mut s: Capture) -> Capture
+#[tactic(auto, unfolding(rules::specs::RegisterCalls::switch_capture, rules::specs::State::with_rate))]
+fn switch_capture(rises: bool, s: Capture) -> Capture
     ensures { result ≡ register_rules.switch_capture rises s }
 {
-    if rises {
-        s.rate = 0;
-        return s;
-    }
-    s
+    if rises { Capture { rate: 0, ..s } } else { s }
 }
 
+#[tactic(auto, unfolding(rules::specs::RegisterCalls::write_control, rules::specs::State::with_registers, rules::specs::State::with_cr))]
 fn write_control(v: u32, s: Capture) -> Capture
     ensures { result ≡ register_rules.write_control v s }
 {
@@ -96,48 +75,29 @@ fn write_control(v: u32, s: Capture) -> Capture
 }
 
 // ICR: a 1 clears that bit of RIS.
+#[tactic(auto, unfolding(rules::specs::RegisterCalls::clear_flags, rules::specs::State::with_ris))]
 fn clear_flags(v: u32, mut r: Registers) -> Registers
     ensures { result ≡ register_rules.clear_flags v r }
 {
-    let ris = r.ris - (r.ris & v);
-    r.ris = ris;
+    r.ris -= r.ris & v;
     r
 }
 
+#[tactic(auto, unfolding(rules::specs::RegisterCalls::write_register, rules::specs::State::with_registers, rules::specs::State::with_ier, rules::specs::State::with_escr, rules::specs::State::with_esur, rules::specs::State::with_cwstrt, rules::specs::State::with_cwsize))]
 fn write_register(register: Register, v: u32, mut s: Capture) -> Capture
     ensures { result ≡ register_rules.write_register register v s }
 {
     match register {
-        Register::Control => write_control(v, s),
-        Register::Status => s,
-        Register::RawStatus => s,
-        Register::InterruptEnable => {
-            s.registers.ier = v;
-            s
-        }
-        Register::MaskedStatus => s,
-        Register::InterruptClear => {
-            let r = clear_flags(v, s.registers);
-            s.registers = r;
-            s
-        }
-        Register::EmbeddedCode => {
-            s.registers.escr = v;
-            s
-        }
-        Register::EmbeddedUnmask => {
-            s.registers.esur = v;
-            s
-        }
-        Register::WindowStart => {
-            s.registers.cwstrt = v;
-            s
-        }
-        Register::WindowSize => {
-            s.registers.cwsize = v;
-            s
-        }
+        Register::Control => return write_control(v, s),
+        Register::Status | Register::RawStatus | Register::MaskedStatus => {}
+        Register::InterruptEnable => s.registers.ier = v,
+        Register::InterruptClear => s.registers = clear_flags(v, s.registers),
+        Register::EmbeddedCode => s.registers.escr = v,
+        Register::EmbeddedUnmask => s.registers.esur = v,
+        Register::WindowStart => s.registers.cwstrt = v,
+        Register::WindowSize => s.registers.cwsize = v,
     }
+    s
 }
 
 // Whether a write is one of CR that takes ENABLE from 1 to 0.
@@ -148,21 +108,19 @@ fn disables(cr: u32, register: Register, v: u32) -> bool
 }
 
 // An accepted write, of the device.
+#[tactic(auto, unfolding(rules::specs::RegisterCalls::write_at))]
 pub fn write_at(d: Device, register: Register, v: u32) -> Device
     requires { d.core.output.counts.discarded + d.core.output.held < 2 ^ 32 }
-    ensures { result ≡ register_rules.write_at d (At register) v }
+    ensures { result ≡ register_rules.write_at d (Some register) v }
 {
     let s = d.core.capture;
     let capture = write_register(register, v, s);
     let mut slots = d.slots;
-    if disables(s.registers.cr, register, v) {
-        let output = discard(0, d.core.output, &mut slots);
-        return Device {
-            core: Core { capture, output },
-            slots,
-        };
-    }
-    let output = d.core.output;
+    let output = if disables(s.registers.cr, register, v) {
+        discard(0, d.core.output, &mut slots)
+    } else {
+        d.core.output
+    };
     Device {
         core: Core { capture, output },
         slots,

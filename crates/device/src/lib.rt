@@ -1,6 +1,6 @@
 // The device: reset, making one with a depth, the test for malformed devices, register reads and writes, the interrupt line, re-arming, runs and single samples. A
 // device goes in by value and comes back by value. Each public function answers for every device and number, states its whole result as one equation
-// with a definition of the crate `rules`, and has no `requires`; a refused call returns the device as it was.
+// with a definition of the crate `rules`, and has no `requires`; a refused call gives its refusal, and the caller's device is as it was.
 #![tactic(auto)]
 
 ghost use Rattle.std.specs.Prelude.{◌≡◌};
@@ -14,50 +14,22 @@ mod runs;
 
 use codes::Waiting;
 use fifo::clauses::bad_depth;
-use output::{Counts, Landing, Output, Packing, SLOTS, USUAL_DEPTH};
-use refusals::{Outcome, Refusal};
-pub use register_calls::{interrupt, read, rearm, write};
+use output::{Counts, Output, SLOTS, SampleAnswer, USUAL_DEPTH};
+use refusals::Refusal;
+pub use register_calls::{interrupt, read, rearm, rearmed, write};
 use rules::{Capture, Core, Device, Frame, Partial, Pins, Registers, Syncs};
 pub use runs::{run, sample};
 pub use well_formed::malformed;
 
-// The answer of a register read.
-#[derive(Clone, Copy)]
-pub enum Reading {
-    Value(u32),
-    Refused(Refusal),
-}
-
-// The interrupt line.
-#[derive(Clone, Copy)]
-pub enum InterruptLine {
-    Up,
-    Down,
-    Refused(Refusal),
-}
-
-// The answer of one sample: where a word landed, and what became of the sample's own word.
-#[derive(Clone, Copy)]
-pub enum Reply {
-    Answered(Landing, Packing),
-    Refused(Refusal),
-}
-
-// A device after a call, with the answer.
-#[derive(Clone, Copy)]
-pub struct Changed {
-    pub device: Device,
-    pub outcome: Outcome,
-}
-
-// A device after one sample, with the answer.
+// A device after one sample, with the sample's two answers.
 #[derive(Clone, Copy)]
 pub struct Sampled {
     pub device: Device,
-    pub reply: Reply,
+    pub answer: SampleAnswer,
 }
 
 // A device after reset, with a depth.
+#[tactic(auto, unfolding(rules::specs::State::fresh_of, rules::specs::State::fresh_capture, output::specs::Output::laid, output::specs::Output::with_held, output::specs::Output::holding, output::specs::Output::fresh_output))]
 fn fresh_of(depth: u32) -> Device
     ensures { result ≡ state.fresh_of depth }
 {
@@ -109,7 +81,7 @@ pub fn fresh() -> Device
     fresh_of(USUAL_DEPTH)
 }
 
-// What stands for a device where a call that gives one is refused: it is malformed, and every call refuses it 1.
+// What the definitions have for a device where a call that gives one is refused (docs/BELIEVED.md): it is malformed, and every call refuses it 1. No code calls it.
 pub fn no_device() -> Device
     ensures { result ≡ register_rules.no_device }
 {
@@ -117,17 +89,12 @@ pub fn no_device() -> Device
 }
 
 // A device made with a depth of 1 to 32. Refusal 18, and no device.
-pub fn made(depth: u32) -> Changed
-    ensures { device_answers.changed result ≡ register_rules.made depth }
+#[tactic(auto, unfolding(rules::specs::RegisterCalls::made))]
+pub fn made(depth: u32) -> Result<Device, Refusal>
+    ensures { device_answers.changed register_rules.no_device result ≡ register_rules.made depth }
 {
     if bad_depth(depth) {
-        return Changed {
-            device: no_device(),
-            outcome: Outcome::Refused(Refusal::Depth),
-        };
+        return Err(Refusal::Depth);
     }
-    Changed {
-        device: fresh_of(depth),
-        outcome: Outcome::Accepted,
-    }
+    Ok(fresh_of(depth))
 }

@@ -1,181 +1,122 @@
-// The calls on a device for callers in C, on numbers and bytes: what `dcmi` exports under the names of include/dcmi.h. A device, with its buffer mode, is an image of 67 words that the caller
-// owns. Each function answers 0 or a refusal number for every input, has no `requires`, and states its whole result, the image, the memory and the outputs that it leaves, as one
-// equation with a definition of `call_rules`; refused, all of them are as they were.
+// The calls on a device for callers in C, on words and bytes: what `dcmi` exports under the names of include/dcmi.h. A device, with its buffer mode, is an image of 67 words that the caller
+// owns. Each function answers for every input, has no `requires`, and states its whole result, the image, the memory and the outputs that it leaves, as one
+// equation with a definition of `call_rules`; refused, all of them are as they were. The outputs are lent, as callers in C lend them.
 #![tactic(auto)]
 
 ghost use Rattle.std.specs.Prelude.{cond, List, ◌≡◌, ℕ};
-ghost use Rattle.rules.specs.declared.Core.{Core};
-ghost use Rattle.device.specs.Answers as device_answers;
+ghost use Rattle.refusals.specs.Refusals.{refused, answered};
+ghost use Rattle.refusals.specs.Table.{outcome, answer_of};
+ghost use Rattle.image_rules.specs.BoardImage as board_image;
 ghost use Rattle.board.specs.Answers as call_answers;
-ghost use Rattle.output.specs.Answers as output_answers;
-ghost use Rattle.sampling.specs.Answers as sample_answers;
-ghost use Rattle.two_buffers.specs.Answers as two_answers;
-ghost use Rattle.board_rules.specs.State as board_state;
-ghost use Rattle.board_rules.specs.BoardCalls.{in_one};
 ghost use Rattle.call_rules.specs.DeviceCalls as call_rules;
 
-use board::{Changed, Handed, TwoReply, TwoSampled};
-use board_rules::{Board, Mode};
+use board_rules::{Board, Handed, Landing, Mode, TwoAnswer};
 use board_words::{board_of, encodes, image_of};
 use buffers::Buffer;
-use device::{InterruptLine, Reading};
-use output::{Landing, Packing};
-use refusals::Outcome;
+use output::{Packing, SampleAnswer};
+use refusals::Refusal;
 use rules::Device;
-use sampling::{SampledCore, sample_core};
-use two_buffers::TwoLanding;
+use sampling::sample_core;
 
-// The image after a call that changes the board.
-fn store(image: &mut [u32; 67], after: Changed) -> u32
-    ensures { call_rules.called result image.new ≡ call_rules.changed image.old (call_answers.changed after) }
+// The board of an image. Refusal 1 where it encodes none. Inlined: a sample takes 110 instructions less (docs/SPEED.md).
+#[inline(always)]
+fn board_in(image: &[u32; 67]) -> Result<Board, Refusal>
+    ensures { answer_of result ≡ cond (board_image.encodes image.now) (answered (board_image.board_of image.now)) (refused 1) }
 {
-    let outcome = after.outcome;
-    match outcome {
-        Outcome::Accepted => {
-            let b = after.board;
-            *image = image_of(b);
-            return 0;
-        }
-        Outcome::Refused(refusal) => {
-            return refusal.number();
-        }
+    if encodes(*image) {
+        Ok(board_of(*image))
+    } else {
+        Err(Refusal::Malformed)
     }
 }
 
 // A fresh device.
-pub fn reset(image: &mut [u32; 67]) -> u32
-    ensures { call_rules.called result image.new ≡ call_rules.reset }
+#[tactic(auto, unfolding(call_rules::specs::DeviceCalls::reset))]
+pub fn reset(image: &mut [u32; 67])
+    ensures { call_rules.called 0 image.new ≡ call_rules.reset }
 {
-    let b = board::fresh();
-    *image = image_of(b);
-    0
+    *image = image_of(board::fresh());
 }
 
 // A device made with a depth.
-pub fn reset_depth(image: &mut [u32; 67], depth: u32) -> u32
-    ensures { call_rules.called result image.new ≡ call_rules.reset_depth image.old depth }
+#[tactic(auto, unfolding(call_rules::specs::DeviceCalls::reset_depth))]
+pub fn reset_depth(image: &mut [u32; 67], depth: u32) -> Result<(), Refusal>
+    ensures { call_rules.called (outcome result) image.new ≡ call_rules.reset_depth image.old depth }
 {
-    let after = board::made(depth);
-    store(image, after)
+    *image = image_of(board::made(depth)?);
+    Ok(())
 }
 
 // A register write.
-pub fn write(image: &mut [u32; 67], offset: u32, value: u32) -> u32
-    ensures { call_rules.called result image.new ≡ call_rules.write image.old offset value }
+#[tactic(auto, unfolding(call_rules::specs::DeviceCalls::write))]
+pub fn write(image: &mut [u32; 67], offset: u32, value: u32) -> Result<(), Refusal>
+    ensures { call_rules.called (outcome result) image.new ≡ call_rules.write image.old offset value }
 {
-    let words = *image;
-    if encodes(words) {
-        let after = board::write(board_of(words), offset, value);
-        return store(image, after);
-    }
-    1
+    *image = image_of(board::write(board_in(image)?, offset, value)?);
+    Ok(())
 }
 
 // The next word goes to place 0.
-pub fn rearm(image: &mut [u32; 67]) -> u32
-    ensures { call_rules.called result image.new ≡ call_rules.rearm image.old }
+#[tactic(auto, unfolding(call_rules::specs::DeviceCalls::rearm))]
+pub fn rearm(image: &mut [u32; 67]) -> Result<(), Refusal>
+    ensures { call_rules.called (outcome result) image.new ≡ call_rules.rearm image.old }
 {
-    let words = *image;
-    if encodes(words) {
-        let after = board::rearm(board_of(words));
-        return store(image, after);
-    }
-    1
+    *image = image_of(board::rearm(board_in(image)?)?);
+    Ok(())
 }
 
 // One frame buffer.
-pub fn one_buffer(image: &mut [u32; 67]) -> u32
-    ensures { call_rules.called result image.new ≡ call_rules.one_buffer image.old }
+#[tactic(auto, unfolding(call_rules::specs::DeviceCalls::one_buffer))]
+pub fn one_buffer(image: &mut [u32; 67]) -> Result<(), Refusal>
+    ensures { call_rules.called (outcome result) image.new ≡ call_rules.one_buffer image.old }
 {
-    let words = *image;
-    if encodes(words) {
-        let after = board::one_buffer(board_of(words));
-        return store(image, after);
-    }
-    1
+    *image = image_of(board::one_buffer(board_in(image)?)?);
+    Ok(())
 }
 
 // Two frame buffers in turn.
-pub fn two_buffers(image: &mut [u32; 67]) -> u32
-    ensures { call_rules.called result image.new ≡ call_rules.two_buffers image.old }
+#[tactic(auto, unfolding(call_rules::specs::DeviceCalls::two_buffers))]
+pub fn two_buffers(image: &mut [u32; 67]) -> Result<(), Refusal>
+    ensures { call_rules.called (outcome result) image.new ≡ call_rules.two_buffers image.old }
 {
-    let words = *image;
-    if encodes(words) {
-        let after = board::two_buffers(board_of(words));
-        return store(image, after);
-    }
-    1
-}
-
-fn put_reading(reading: Reading, value: &mut u32) -> u32
-    ensures { call_rules.gave result value.new ≡ call_rules.got value.old (device_answers.reading reading) }
-{
-    match reading {
-        Reading::Value(v) => {
-            *value = v;
-            return 0;
-        }
-        Reading::Refused(refusal) => {
-            return refusal.number();
-        }
-    }
+    *image = image_of(board::two_buffers(board_in(image)?)?);
+    Ok(())
 }
 
 // A register read.
-pub fn read(image: &[u32; 67], offset: u32, value: &mut u32) -> u32
-    ensures { call_rules.gave result value.new ≡ call_rules.read image.now offset value.old }
+#[tactic(auto, unfolding(call_rules::specs::DeviceCalls::read))]
+pub fn read(image: &[u32; 67], offset: u32, value: &mut u32) -> Result<(), Refusal>
+    ensures { call_rules.gave (outcome result) value.new ≡ call_rules.read image.now offset value.old }
 {
-    let words = *image;
-    if encodes(words) {
-        let reading = board::read(board_of(words), offset);
-        return put_reading(reading, value);
-    }
-    1
-}
-
-fn put_line(line: InterruptLine, level: &mut u32) -> u32
-    ensures { call_rules.gave result level.new ≡ call_rules.got_line level.old (device_answers.line line) }
-{
-    match line {
-        InterruptLine::Up => {
-            *level = 1;
-            return 0;
-        }
-        InterruptLine::Down => {
-            *level = 0;
-            return 0;
-        }
-        InterruptLine::Refused(refusal) => {
-            return refusal.number();
-        }
-    }
+    *value = board::read(board_in(image)?, offset)?;
+    Ok(())
 }
 
 // The interrupt line: 1 up, 0 down.
-pub fn interrupt(image: &[u32; 67], level: &mut u32) -> u32
-    ensures { call_rules.gave result level.new ≡ call_rules.interrupt image.now level.old }
+#[tactic(auto, unfolding(call_rules::specs::DeviceCalls::interrupt))]
+pub fn interrupt(image: &[u32; 67], level: &mut u32) -> Result<(), Refusal>
+    ensures { call_rules.gave (outcome result) level.new ≡ call_rules.interrupt image.now level.old }
 {
-    let words = *image;
-    if encodes(words) {
-        let line = board::interrupt(board_of(words));
-        return put_line(line, level);
-    }
-    1
+    *level = u32::from(board::interrupt(board_in(image)?)?);
+    Ok(())
 }
 
 // A run of samples over the memory from the start byte on.
-pub fn run(image: &mut [u32; 67], memory: &mut [u8], start: usize, samples: &[u32]) -> u32
-    ensures { call_rules.run_called result image.new memory.new ≡ call_rules.run image.old memory.old start samples.now }
+#[tactic(auto, unfolding(call_rules::specs::DeviceCalls::run))]
+pub fn run(
+    image: &mut [u32; 67],
+    memory: &mut [u8],
+    start: usize,
+    samples: &[u32],
+) -> Result<(), Refusal>
+    ensures { call_rules.run_called (outcome result) image.new memory.new ≡ call_rules.run image.old memory.old start samples.now }
 {
-    let words = *image;
-    if encodes(words) {
-        let after = board::run(board_of(words), memory, start, samples);
-        return store(image, after);
-    }
-    1
+    *image = image_of(board::run(board_in(image)?, memory, start, samples)?);
+    Ok(())
 }
 
 // A run of samples over two memories, each from its start byte on.
+#[tactic(auto, unfolding(call_rules::specs::DeviceCalls::run_two))]
 pub fn run_two(
     image: &mut [u32; 67],
     memory_a: &mut [u8],
@@ -183,122 +124,79 @@ pub fn run_two(
     memory_b: &mut [u8],
     start_b: usize,
     samples: &[u32],
-) -> u32
-    ensures { call_rules.two_called result image.new memory_a.new memory_b.new ≡ call_rules.run_two image.old (call_answers.both memory_a.old start_a memory_b.old start_b) samples.now }
+) -> Result<(), Refusal>
+    ensures { call_rules.two_called (outcome result) image.new memory_a.new memory_b.new ≡ call_rules.run_two image.old (call_answers.both memory_a.old start_a memory_b.old start_b) samples.now }
 {
-    let words = *image;
-    if encodes(words) {
-        let b = board_of(words);
-        let after = board::run_two(b, memory_a, start_a, memory_b, start_b, samples);
-        return store(image, after);
-    }
-    1
+    let b = board_in(image)?;
+    *image = image_of(board::run_two(b, memory_a, start_a, memory_b, start_b, samples)?);
+    Ok(())
 }
 
-fn landed_word(landing: Landing) -> u64
-    ensures { result ≡ call_rules.landed_word (output_answers.landing landing) }
+// What became of a sample's own word, and the word, as a number.
+fn packed_word(packed: Packing) -> u64
+    ensures { result ≡ call_rules.packed_word packed }
 {
-    match landing {
-        Landing::Nowhere => 0,
-        Landing::At(_) => 1,
-    }
-}
-
-fn byte_word(landing: Landing) -> u64
-    ensures { result ≡ call_rules.byte_word (output_answers.landing landing) }
-{
-    match landing {
-        Landing::Nowhere => 0,
-        Landing::At(byte) => byte as u64,
-    }
-}
-
-fn packed_word(packing: Packing) -> u64
-    ensures { result ≡ call_rules.packed_word (output_answers.packing packing) }
-{
-    match packing {
+    match packed {
         Packing::Nothing => 0,
         Packing::Completed(_) => 1,
         Packing::Lost => 2,
     }
 }
 
-fn value_word(packing: Packing) -> u64
-    ensures { result ≡ call_rules.value_word (output_answers.packing packing) }
+fn value_word(packed: Packing) -> u64
+    ensures { result ≡ call_rules.value_word packed }
 {
-    match packing {
-        Packing::Nothing => 0,
+    match packed {
         Packing::Completed(value) => value as u64,
-        Packing::Lost => 0,
+        Packing::Nothing | Packing::Lost => 0,
     }
 }
 
-fn put_sampled(
-    image: &mut [u32; 67],
-    answer: &mut [u64; 4],
-    after: SampledCore,
-    slots: [u32; 32],
-) -> u32
-    ensures { (core : Core) (memory : List ℕ) → let a = sample_answers.sampled_core core after slots memory in call_rules.sample_called result image.new answer.new ≡ call_rules.sample_stored image.old answer.old a.answer (in_one a.device) }
+// A sample's two answers as four words.
+fn answer_words(answer: SampleAnswer) -> [u64; 4]
+    ensures { result ≡ call_rules.answer_words answer }
 {
-    match after {
-        SampledCore::Answered(core, landing, packing) => {
-            *image = image_of(Board {
-                device: Device { core, slots },
-                mode: Mode::One,
-            });
-            let landed = landed_word(landing);
-            let byte = byte_word(landing);
-            let packed = packed_word(packing);
-            let value = value_word(packing);
-            *answer = [landed, byte, packed, value];
-            return 0;
-        }
-        SampledCore::Refused(refusal) => {
-            return refusal.number();
-        }
-    }
+    let (landed, byte) = match answer.landing {
+        None => (0, 0),
+        Some(byte) => (1, byte as u64),
+    };
+    [
+        landed,
+        byte,
+        packed_word(answer.packed),
+        value_word(answer.packed),
+    ]
 }
 
-// One sample over the memory from the start byte on, with its two answers.
+// One sample over the memory from the start byte on, with its two answers. The slots are lent to the one core by itself (docs/SPEED.md).
+#[tactic(auto, unfolding(call_rules::specs::DeviceCalls::sample))]
 pub fn sample(
     image: &mut [u32; 67],
     memory: &mut [u8],
     start: usize,
     sample: u32,
     answer: &mut [u64; 4],
-) -> u32
-    ensures { call_rules.sample_left (call_rules.sample_called result image.new answer.new) memory.new ≡ call_rules.sample image.old memory.old start sample answer.old }
+) -> Result<(), Refusal>
+    ensures { call_rules.sample_left (call_rules.sample_called (outcome result) image.new answer.new) memory.new ≡ call_rules.sample image.old memory.old start sample answer.old }
 {
-    let words = *image;
-    if encodes(words) {
-        let b = board_of(words);
-        let mode = b.mode;
-        match mode {
-            Mode::One => {
-                let d = b.device;
-                let mut slots = d.slots;
-                let after = sample_core(d.core, &mut slots, memory, start, sample);
-                return put_sampled(image, answer, after, slots);
-            }
-            Mode::Two(_) => {
-                return unmatched_number(b);
-            }
-        }
-    }
-    1
+    let b = board_in(image)?;
+    let Mode::One = b.mode else {
+        return Err(board::unmatched(b));
+    };
+    let mut slots = b.device.slots;
+    let after = sample_core(b.device.core, &mut slots, memory, start, sample)?;
+    *image = image_of(Board {
+        device: Device {
+            core: after.core,
+            slots,
+        },
+        mode: Mode::One,
+    });
+    *answer = answer_words(after.answer);
+    Ok(())
 }
 
-// Why a call over memories that do not match the mode is refused.
-fn unmatched_number(b: Board) -> u32
-    ensures { result ≡ cond (board_state.malformed b) 1 16 }
-{
-    if board::malformed(b) {
-        return 1;
-    }
-    16
-}
-
+// A buffer as a number.
 fn in_word(u: Buffer) -> u64
     ensures { result ≡ call_rules.in_word u }
 {
@@ -308,46 +206,24 @@ fn in_word(u: Buffer) -> u64
     }
 }
 
-fn landed_in_word(landing: TwoLanding) -> u64
-    ensures { result ≡ call_rules.landed_in_word (two_answers.landing landing) }
+// The two answers of a sample over two memories as four words.
+fn two_words(answer: TwoAnswer) -> [u64; 4]
+    ensures { result ≡ call_rules.two_words answer }
 {
-    match landing {
-        TwoLanding::Nowhere => 0,
-        TwoLanding::In(u, _) => in_word(u),
-    }
-}
-
-fn byte_in_word(landing: TwoLanding) -> u64
-    ensures { result ≡ call_rules.byte_in_word (two_answers.landing landing) }
-{
-    match landing {
-        TwoLanding::Nowhere => 0,
-        TwoLanding::In(_, byte) => byte as u64,
-    }
-}
-
-fn put_two_sampled(image: &mut [u32; 67], answer: &mut [u64; 4], after: TwoSampled) -> u32
-    ensures { call_rules.sample_called result image.new answer.new ≡ call_rules.two_stored image.old answer.old (call_answers.two_reply after.reply) after.board }
-{
-    let reply = after.reply;
-    match reply {
-        TwoReply::Answered(landing, packing) => {
-            let b = after.board;
-            *image = image_of(b);
-            let landed = landed_in_word(landing);
-            let byte = byte_in_word(landing);
-            let packed = packed_word(packing);
-            let value = value_word(packing);
-            *answer = [landed, byte, packed, value];
-            return 0;
-        }
-        TwoReply::Refused(refusal) => {
-            return refusal.number();
-        }
-    }
+    let (landed, byte) = match answer.landing {
+        None => (0, 0),
+        Some(Landing { buffer, byte }) => (in_word(buffer), byte as u64),
+    };
+    [
+        landed,
+        byte,
+        packed_word(answer.packed),
+        value_word(answer.packed),
+    ]
 }
 
 // One sample over two memories, each from its start byte on, with its two answers.
+#[tactic(auto, unfolding(call_rules::specs::DeviceCalls::sample_two))]
 pub fn sample_two(
     image: &mut [u32; 67],
     memory_a: &mut [u8],
@@ -356,16 +232,14 @@ pub fn sample_two(
     start_b: usize,
     sample: u32,
     answer: &mut [u64; 4],
-) -> u32
-    ensures { call_rules.two_left (call_rules.sample_called result image.new answer.new) memory_a.new memory_b.new ≡ call_rules.sample_two image.old (call_answers.both memory_a.old start_a memory_b.old start_b) sample answer.old }
+) -> Result<(), Refusal>
+    ensures { call_rules.two_left (call_rules.sample_called (outcome result) image.new answer.new) memory_a.new memory_b.new ≡ call_rules.sample_two image.old (call_answers.both memory_a.old start_a memory_b.old start_b) sample answer.old }
 {
-    let words = *image;
-    if encodes(words) {
-        let b = board_of(words);
-        let after = board::sample_two(b, memory_a, start_a, memory_b, start_b, sample);
-        return put_two_sampled(image, answer, after);
-    }
-    1
+    let b = board_in(image)?;
+    let after = board::sample_two(b, memory_a, start_a, memory_b, start_b, sample)?;
+    *image = image_of(after.board);
+    *answer = two_words(after.answer);
+    Ok(())
 }
 
 fn start_of(u: Buffer, start_a: usize, start_b: usize) -> u64
@@ -386,35 +260,19 @@ fn short_word(u: Buffer) -> u64
     }
 }
 
-fn put_frame(handed: Handed, start_a: usize, start_b: usize, frame: &mut [u64; 3]) -> u32
-    ensures { (la lb : ℕ) → call_rules.frame_called result frame.new ≡ call_rules.frame_words frame.old (call_answers.spans la start_a lb start_b) (call_answers.handed handed) }
+// Where the latest complete frame is, as three words.
+fn frame_words(handed: Handed, start_a: usize, start_b: usize) -> [u64; 3]
+    ensures { (la lb : ℕ) (old : List ℕ) → call_rules.frame_called 0 result ≡ call_rules.frame_words old (call_answers.spans la start_a lb start_b) (answered handed) }
 {
     match handed {
-        Handed::Nothing => {
-            *frame = [0, 0, 0];
-            return 0;
-        }
-        Handed::TooShort(u, bytes) => {
-            let kind = short_word(u);
-            let offset = start_of(u, start_a, start_b);
-            let length = bytes as u64;
-            *frame = [kind, offset, length];
-            return 0;
-        }
-        Handed::FrameIn(u, bytes) => {
-            let kind = in_word(u);
-            let offset = start_of(u, start_a, start_b);
-            let length = bytes as u64;
-            *frame = [kind, offset, length];
-            return 0;
-        }
-        Handed::Refused(refusal) => {
-            return refusal.number();
-        }
+        Handed::Nothing => [0, 0, 0],
+        Handed::TooShort(u, bytes) => [short_word(u), start_of(u, start_a, start_b), bytes as u64],
+        Handed::FrameIn(u, bytes) => [in_word(u), start_of(u, start_a, start_b), bytes as u64],
     }
 }
 
 // Where the latest complete frame is, by the lengths and starts of the two memories.
+#[tactic(auto, unfolding(call_rules::specs::DeviceCalls::latest_frame))]
 pub fn latest_frame(
     image: &[u32; 67],
     length_a: usize,
@@ -422,13 +280,11 @@ pub fn latest_frame(
     length_b: usize,
     start_b: usize,
     frame: &mut [u64; 3],
-) -> u32
-    ensures { call_rules.frame_called result frame.new ≡ call_rules.latest_frame image.now (call_answers.spans length_a start_a length_b start_b) frame.old }
+) -> Result<(), Refusal>
+    ensures { call_rules.frame_called (outcome result) frame.new ≡ call_rules.latest_frame image.now (call_answers.spans length_a start_a length_b start_b) frame.old }
 {
-    let words = *image;
-    if encodes(words) {
-        let handed = board::latest_frame(board_of(words), length_a, start_a, length_b, start_b);
-        return put_frame(handed, start_a, start_b, frame);
-    }
-    1
+    let b = board_in(image)?;
+    let handed = board::latest_frame(b, length_a, start_a, length_b, start_b)?;
+    *frame = frame_words(handed, start_a, start_b);
+    Ok(())
 }

@@ -1,3 +1,3 @@
-pub mod Moving
 pub mod SaidBack
 pub mod Tail
+mod Zeros

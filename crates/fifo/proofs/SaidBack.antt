@@ -1,18 +1,15 @@
--- What is noted in places of zeros is what they say. By the cases of each answer. Assumes nothing.
-use mathlib.Core.List.{[], ◌∷◌}
-use mathlib.Core.Option.{Option, none, some}
-use mathlib.Core.Path.{◌≡◌, refl}
+-- What is noted of a sample, where nothing was noted before, are its answers. By the cases of each answer. Assumes nothing.
 use Prim.Native.Nat.{ℕ}
-use Rattle.output.specs.Output.{Packed, nothing, completed, lost}
-use Rattle.fifo.specs.Notes.{note_landing, note_packing, noted_landing, noted_packing}
+use mathlib.Core.Path.{◌≡◌, refl}
+use Rattle.std.specs.Prelude.{Option, None, Some}
+use Rattle.output.specs.declared.Packing.{Packing as Packed}
+use Rattle.output.specs.declared.Packing.TheVariants.{Nothing as nothing, Completed as completed, Lost as lost}
+use Rattle.fifo.specs.Notes.{no_answer, note_landing, note_packing}
 
-pub landing_back : (l : Option ℕ) → noted_landing (note_landing l (0 ∷ 0 ∷ [])) ≡ l
-unfolding noted_landing note_landing
-landing_back none = refl
-landing_back (some byte) = refl
-
-pub packing_back : (p : Packed) → noted_packing (note_packing p (0 ∷ 0 ∷ [])) ≡ p
-unfolding noted_packing note_packing
-packing_back nothing = refl
-packing_back (completed v) = refl
-packing_back lost = refl
+pub said_back : (l : Option ℕ) (p : Packed) → note_packing p (note_landing l no_answer) ≡ record { landing = l; packed = p }
+said_back None nothing = refl
+said_back None (completed v) = refl
+said_back None lost = refl
+said_back (Some byte) nothing = refl
+said_back (Some byte) (completed v) = refl
+said_back (Some byte) lost = refl

@@ -1,24 +1,21 @@
--- A sample's two answers as numbers in two lent places. An answer that says none changes nothing, so that a place says the last one that did. No contract of a call that
+-- A sample's two answers, noted one after the other. An answer that says none changes nothing, so that what is noted is the last one that did. No contract of a call that
 -- users make cites them.
-use Rattle.std.specs.Prelude.{cond, List, ℕ, eqb, get_or, set}
-use Rattle.std.proofs.Math.Option.{Option, none, some}
-use Rattle.output.specs.Output.{Packed, nothing, completed, lost}
+use Rattle.std.specs.Prelude.{ℕ, Option, None, Some}
+use Rattle.output.specs.declared.Packing.{Packing as Packed}
+use Rattle.output.specs.declared.Packing.TheVariants.{Nothing as nothing, Completed as completed, Lost as lost}
+use Rattle.output.specs.declared.SampleAnswer.{SampleAnswer}
 
--- The byte at which a word landed: 1 and the byte.
-unfoldable pub note_landing : Option ℕ → List ℕ → List ℕ
-note_landing none landings = landings
-note_landing (some byte) landings = set (set landings 0 1) 1 byte
+-- Nothing is noted.
+abbrev pub no_answer : SampleAnswer
+no_answer = record { landing = None; packed = nothing }
 
--- What became of a word: 1 and the word completed, or 2 where one was lost.
-unfoldable pub note_packing : Packed → List ℕ → List ℕ
-note_packing nothing words = words
-note_packing (completed v) words = set (set words 0 1) 1 v
-note_packing lost words = set words 0 2
+-- The byte at which a word landed.
+abbrev pub note_landing : Option ℕ → SampleAnswer → SampleAnswer
+note_landing None a = a
+note_landing (Some byte) a = record { landing = Some byte; packed = a.packed }
 
--- The answers that the places say.
-unfoldable pub noted_landing : List ℕ → Option ℕ
-noted_landing landings = cond (eqb (get_or landings 0 0) 0) none (some (get_or landings 1 0))
-
-unfoldable pub noted_packing : List ℕ → Packed
-noted_packing words =
-    cond (eqb (get_or words 0 0) 0) nothing (cond (eqb (get_or words 0 0) 1) (completed (get_or words 1 0)) lost)
+-- What became of a word.
+abbrev pub note_packing : Packed → SampleAnswer → SampleAnswer
+note_packing nothing a = a
+note_packing (completed v) a = record { landing = a.landing; packed = completed v }
+note_packing lost a = record { landing = a.landing; packed = lost }

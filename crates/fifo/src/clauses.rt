@@ -1,35 +1,22 @@
 // The clauses of "Malformed" that speak of FIFO, place and counts alone.
-ghost use Rattle.std.specs.Prelude.{◌≡◌, ◌+◌, length, drop};
-ghost use Rattle.output.specs.Output.{slot_count};
+ghost use Rattle.std.specs.Prelude.{◌≡◌, ◌+◌};
 ghost use Rattle.output.specs.Answers as output_answers;
 ghost use Rattle.output.specs.WellFormed as output_clauses;
 
 use output::{Output, SLOTS};
 
-// Whether the slots from one on are all 0. The loop does not end early, so that the compiler tests several at once.
-fn all_zero(slots: &[u32; SLOTS], from: usize) -> bool
-    requires { length slots.now ≡ slot_count }
-    ensures { result ≡ output_clauses.all_zero (drop from slots.now) }
+// Whether all these slots are 0: a fold, and no `all`, which would end early, so that the compiler tests several at once (docs/SPEED.md).
+fn all_zero(slots: &[u32]) -> bool
+    ensures { result ≡ output_clauses.all_zero slots.now }
 {
-    let mut zero = true;
-    let mut i = from;
-    while i < SLOTS {
-        if slots[i] != 0 {
-            zero = false;
-        }
-        i += 1;
-    }
-    zero
+    slots.iter().fold(true, |zero, slot| zero & (*slot == 0))
 }
 
 pub fn bad_fifo(o: Output, slots: &[u32; SLOTS]) -> bool
-    requires { length slots.now ≡ slot_count }
     ensures { result ≡ output_clauses.bad_fifo (output_answers.left o slots.now) }
 {
-    if o.depth < o.held {
-        return true;
-    }
-    !all_zero(slots, o.held as usize)
+    let unused = &slots[SLOTS.min(o.held as usize)..];
+    o.depth < o.held || !all_zero(unused)
 }
 
 pub fn bad_place(o: Output) -> bool
@@ -54,8 +41,5 @@ pub fn bad_counts(o: Output) -> bool
 pub fn bad_depth(depth: u32) -> bool
     ensures { result ≡ output_clauses.bad_depth depth }
 {
-    if depth == 0 {
-        return true;
-    }
-    SLOTS < depth as usize
+    depth == 0 || SLOTS < depth as usize
 }

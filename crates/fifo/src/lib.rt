@@ -1,6 +1,7 @@
 // Words on their way to memory, in code: rule 1, given the grant and ENABLE as truth values, and of rule 9 the count, the test for full, holding and discarding. Nothing here
 // knows of a camera. The slots are lent and the rest goes by value (docs/SPEED.md). The functions are for the crates of this repository, which call them on well-formed states;
-// each states its result as an equation with its definition, in `output`.
+// each states its result as an equation with its definition, in `output`. They are no methods, since that crate, of the types, has no code.
+// No type holds `Laid` or the bounds on the counts: a device may be malformed, which `clauses`, refusal 1 and the laws speak of, in the same type.
 #![tactic(auto)]
 
 ghost use Rattle.std.specs.Prelude.{◌≡◌, ℕ, ◌+◌, ◌-◌, ◌≤◌, ◌<◌, ◌^◌, true, List, ◌∷◌, ◌++◌, length, take, drop};
@@ -11,7 +12,7 @@ ghost use Rattle.output.specs.Answers as output_answers;
 pub mod clauses;
 pub mod notes;
 
-use output::{Counts, Fate, Granted, Landing, Offered, Output, SLOTS};
+use output::{Counts, Fate, Granted, Offered, Output, SLOTS};
 
 // The same output, each field by itself: so the compiler keeps them apart (docs/SPEED.md).
 pub fn apart(o: Output) -> Output
@@ -36,8 +37,7 @@ pub fn count_sample(o: Output) -> Output
     ensures { result ≡ output_rules.count_sample o }
 {
     let mut counted = apart(o);
-    let samples = o.counts.samples + 1;
-    counted.counts.samples = samples;
+    counted.counts.samples += 1;
     counted
 }
 
@@ -47,12 +47,8 @@ fn move_down(slots: &mut [u32; SLOTS], held: usize)
     requires held_nonzero { (0 < held) × (held ≤ output_rules.slot_count) }
     ensures { slots.new ≡ take (held - 1) (drop 1 slots.old) ++ 0 ∷ drop held slots.old }
 {
-    let mut i = 0;
-    while i + 1 < held {
-        slots[i] = slots[i + 1];
-        i += 1;
-    }
-    slots[i] = 0;
+    slots.copy_within(1..held, 0);
+    slots[held - 1] = 0;
 }
 
 // Whether word k has room in a frame buffer of some length.
@@ -67,10 +63,7 @@ fn store(buffer: &mut [u8], at: usize, v: u32)
     requires { at + 4 ≤ length buffer.old }
     ensures { buffer.new ≡ take at buffer.old ++ output_rules.bytes v ++ drop (at + 4) buffer.old }
 {
-    buffer[at] = (v % 256) as u8;
-    buffer[at + 1] = (v / 256 % 256) as u8;
-    buffer[at + 2] = (v / 65536 % 256) as u8;
-    buffer[at + 3] = (v / 16777216 % 256) as u8;
+    buffer[at..at + 4].copy_from_slice(&v.to_le_bytes());
 }
 
 // One word more has landed, and one less is held.
@@ -79,12 +72,9 @@ fn landed(o: Output) -> Output
     ensures { result ≡ output_rules.with_held (o.held - 1) (output_rules.count_landed o) }
 {
     let mut after = apart(o);
-    let held = o.held - 1;
-    let place = o.place + 1;
-    let landed = o.counts.landed + 1;
-    after.held = held;
-    after.place = place;
-    after.counts.landed = landed;
+    after.held -= 1;
+    after.place += 1;
+    after.counts.landed += 1;
     after
 }
 
@@ -93,12 +83,13 @@ pub fn no_landing(o: Output) -> Granted
     ensures { (slots buffer : List ℕ) → output_answers.granted result slots buffer ≡ output_rules.no_landing (output_answers.left o slots) buffer }
 {
     Granted {
-        landing: Landing::Nowhere,
+        landing: None,
         output: o,
     }
 }
 
 // Rule 1 where the bus grants and ENABLE is 1: the oldest held word, if there is one and it has room, goes to the next place.
+// One test inside the other, here and in `grant`: joined by `&&`, with `notes::note_packing` as one test, a sample takes 2 instructions more (docs/SPEED.md).
 fn oldest_lands(o: Output, slots: &mut [u32; SLOTS], buffer: &mut [u8]) -> Granted
     requires laid { Laid (output_answers.left o slots.old) }
     requires place_bound { (o.place + 1 < 2 ^ 32) × (o.counts.landed + 1 < 2 ^ 32) }
@@ -110,7 +101,7 @@ fn oldest_lands(o: Output, slots: &mut [u32; SLOTS], buffer: &mut [u8]) -> Grant
             store(buffer, at, slots[0]);
             move_down(slots, o.held as usize);
             return Granted {
-                landing: Landing::At(at),
+                landing: Some(at),
                 output: landed(o),
             };
         }
@@ -146,8 +137,7 @@ fn count_word(o: Output) -> Output
     ensures { result ≡ output_rules.count_word o }
 {
     let mut counted = apart(o);
-    let completed = o.counts.completed + 1;
-    counted.counts.completed = completed;
+    counted.counts.completed += 1;
     counted
 }
 
@@ -157,8 +147,7 @@ fn one_more(o: Output) -> Output
     ensures { result ≡ output_rules.with_held (o.held + 1) o }
 {
     let mut after = apart(o);
-    let held = o.held + 1;
-    after.held = held;
+    after.held += 1;
     after
 }
 
@@ -172,14 +161,15 @@ pub fn offer(v: u32, o: Output, slots: &mut [u32; SLOTS]) -> Offered
     if o.held < o.depth {
         let at = o.held as usize;
         slots[at] = v;
-        return Offered {
+        Offered {
             output: one_more(counted),
             fate: Fate::Held,
-        };
-    }
-    Offered {
-        output: counted,
-        fate: Fate::Lost,
+        }
+    } else {
+        Offered {
+            output: counted,
+            fate: Fate::Lost,
+        }
     }
 }
 
@@ -190,8 +180,7 @@ pub fn discard(more: u32, o: Output, slots: &mut [u32; SLOTS]) -> Output
 {
     *slots = [0; SLOTS];
     let mut after = apart(o);
-    let discarded = o.counts.discarded + o.held + more;
-    after.counts.discarded = discarded;
+    after.counts.discarded += o.held + more;
     after.held = 0;
     after
 }
@@ -202,7 +191,6 @@ pub fn lose(o: Output) -> Output
     ensures { result ≡ output_rules.count_discarded 1 o }
 {
     let mut after = apart(o);
-    let discarded = o.counts.discarded + 1;
-    after.counts.discarded = discarded;
+    after.counts.discarded += 1;
     after
 }

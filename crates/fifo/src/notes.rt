@@ -1,78 +1,45 @@
-// A sample's two answers as numbers in two lent places: the loop over the samples lends them on, and they are written only where a word lands or is full (docs/SPEED.md).
-ghost use Rattle.std.proofs.Math.Option.{some};
+// A sample's two answers, noted in a lent place: the loop over the samples lends it on, and it is written only where a word lands or is full (docs/SPEED.md).
 ghost use Rattle.std.specs.Prelude.{◌≡◌, ℕ, ◌+◌, ◌<◌, ◌^◌};
 ghost use Rattle.output.specs.Output as output_rules;
-ghost use Rattle.output.specs.Answers as output_answers;
-ghost use Rattle.fifo.specs.Notes as places;
+ghost use Rattle.fifo.specs.Notes as notes;
 
-use output::{Landing, Packing};
+use output::{Packing, SampleAnswer};
+
+// Before a sample: nothing is noted.
+pub fn no_answer() -> SampleAnswer
+    ensures { result ≡ notes.no_answer }
+{
+    SampleAnswer {
+        landing: None,
+        packed: Packing::Nothing,
+    }
+}
 
 // Where a word landed, if one did.
-pub fn note_landing(landing: Landing, landings: &mut [usize; 2])
-    ensures { landings.new ≡ places.note_landing (output_answers.landing landing) landings.old }
+pub fn note_landing(landing: Option<usize>, answer: &mut SampleAnswer)
+    ensures { answer.new ≡ notes.note_landing landing answer.old }
 {
-    match landing {
-        Landing::Nowhere => {
-            return;
-        }
-        Landing::At(byte) => {
-            landings[0] = 1;
-            landings[1] = byte;
-            return;
-        }
+    if let Some(byte) = landing {
+        answer.landing = Some(byte);
     }
 }
 
-// What became of the word, if there was one.
-pub fn note_packing(packing: Packing, words: &mut [u32; 2])
-    ensures { words.new ≡ places.note_packing (output_answers.packing packing) words.old }
+// What became of the word, if there was one. By cases, and not by one test and a copy: measured with `grant` (its line).
+pub fn note_packing(packing: Packing, answer: &mut SampleAnswer)
+    ensures { answer.new ≡ notes.note_packing packing answer.old }
 {
     match packing {
-        Packing::Nothing => {
-            return;
-        }
-        Packing::Completed(v) => {
-            words[0] = 1;
-            words[1] = v;
-            return;
-        }
-        Packing::Lost => {
-            words[0] = 2;
-            return;
-        }
+        Packing::Nothing => {}
+        Packing::Completed(word) => answer.packed = Packing::Completed(word),
+        Packing::Lost => answer.packed = Packing::Lost,
     }
-}
-
-// The landing noted last.
-pub fn noted_landing(landings: [usize; 2]) -> Landing
-    ensures { output_answers.landing result ≡ places.noted_landing landings }
-{
-    if landings[0] == 0 {
-        return Landing::Nowhere;
-    }
-    Landing::At(landings[1])
-}
-
-// What became of the word noted last.
-pub fn noted_packing(words: [u32; 2]) -> Packing
-    ensures { output_answers.packing result ≡ places.noted_packing words }
-{
-    if words[0] == 0 {
-        return Packing::Nothing;
-    }
-    if words[0] == 1 {
-        return Packing::Completed(words[1]);
-    }
-    Packing::Lost
 }
 
 // A byte of the frame buffer as a byte of the lent memory.
-pub fn in_memory(start: usize, place: Landing) -> Landing
-    requires { (b : ℕ) → output_answers.landing place ≡ some b → start + b < 2 ^ 64 }
-    ensures { output_answers.landing result ≡ output_rules.in_memory start (output_answers.landing place) }
+#[tactic(auto, unfolding(output::specs::Output::in_memory))]
+pub fn in_memory(start: usize, landing: Option<usize>) -> Option<usize>
+    requires { (b : ℕ) → landing ≡ Some b → start + b < 2 ^ 64 }
+    ensures { result ≡ output_rules.in_memory start landing }
 {
-    match place {
-        Landing::Nowhere => Landing::Nowhere,
-        Landing::At(byte) => Landing::At(start + byte),
-    }
+    landing.map(|byte| start + byte)
 }

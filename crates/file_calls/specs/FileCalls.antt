@@ -1,6 +1,5 @@
 -- What the exported calls on trace files answer and leave, as numbers and words (include/dcmi.h). Refused, image, memory and every output stay.
 use Rattle.std.specs.Prelude.{cond, List, [], ◌∷◌, ℕ, eqb}
-use Rattle.rules.specs.Answers as rule_answers
 use Rattle.rules.specs.Run as run_rules
 use Rattle.board_rules.specs.BoardCalls as board_calls
 use Rattle.trace_format.specs.declared.Write.{Write}
@@ -8,12 +7,9 @@ use Rattle.trace_format.specs.Reading as reading
 use Rattle.trace_writer.specs.Writing as writing
 use Rattle.file_rules.specs.File as file_rules
 use Rattle.image_rules.specs.BoardImage.{image_of}
-use Rattle.call_rules.specs.DeviceCalls.{Called, RunCalled, Got, got}
+use Rattle.call_rules.specs.DeviceCalls.{RunCalled, Got, got}
 
 -- A file needs no device: its image is the one that the file leaves, in mode one, or, refused, as it was.
-abbrev pub file_changed : List ℕ → rule_answers.Changed → Called
-file_changed image c = record { number = c.number; image = cond (eqb c.number 0) (image_of (board_calls.in_one c.device)) image }
-
 abbrev pub file_ran : List ℕ → run_rules.RunResult → RunCalled
 file_ran image r = record { number = r.number; image = cond (eqb r.number 0) (image_of (board_calls.in_one r.device)) image; memory = r.memory }
 

@@ -1,77 +1,74 @@
-// The calls on trace files for callers in C, on numbers and bytes: what `dcmi` exports under the names of include/dcmi.h. Each function answers 0 or a refusal number for every input, has no
-// `requires`, and states its whole result, the image, the memory and the outputs that it leaves, as one equation with a definition of specs/; refused, all of them are as they were.
+// The calls on trace files for callers in C, on words and bytes: what `dcmi` exports under the names of include/dcmi.h. Each function answers for every input, has no `requires`, and states
+// its whole result, the image, the memory and the outputs that it leaves, as one equation with a definition of specs/; refused, all of them are as they were.
 #![tactic(auto)]
 
-ghost use Rattle.std.specs.Prelude.{◌≡◌};
-ghost use Rattle.device.specs.Answers as device_answers;
+ghost use Rattle.std.specs.Prelude.{List, Ok, ◌≡◌, ℕ};
+ghost use Rattle.refusals.specs.Table.{outcome};
+ghost use Rattle.board_rules.specs.BoardCalls.{in_one};
+ghost use Rattle.image_rules.specs.BoardImage as board_image;
 ghost use Rattle.trace_reader.specs.Answers as trace_answers;
-ghost use Rattle.trace_writer.specs.Answers as writer_answers;
 ghost use Rattle.trace_writer.specs.Writing as writing;
 ghost use Rattle.call_rules.specs.DeviceCalls as call_rules;
 ghost use Rattle.file_calls.specs.FileCalls as file_call_rules;
 
 use board_rules::{Board, Mode};
 use board_words::image_of;
-use refusals::Outcome;
-use trace_reader::{Item, Read};
+use refusals::Refusal;
+use rules::Device;
+use std::array;
+use trace_format::Write;
+use trace_reader::{Item, read_once};
 
-// The image after a file, in mode one.
-fn store_device(image: &mut [u32; 67], after: device::Changed) -> u32
-    ensures { call_rules.called result image.new ≡ file_call_rules.file_changed image.old (device_answers.changed after) }
+// The image of a device in mode one.
+fn image_in_one(device: Device) -> [u32; 67]
+    ensures { result ≡ board_image.image_of (in_one device) }
 {
-    let outcome = after.outcome;
-    match outcome {
-        Outcome::Accepted => {
-            let device = after.device;
-            *image = image_of(Board {
-                device,
-                mode: Mode::One,
-            });
-            return 0;
-        }
-        Outcome::Refused(refusal) => {
-            return refusal.number();
-        }
-    }
+    image_of(Board {
+        device,
+        mode: Mode::One,
+    })
 }
 
 // A trace file on a fresh device, over the memory from the start byte on.
-pub fn run_file(image: &mut [u32; 67], file: &[u8], memory: &mut [u8], start: usize) -> u32
-    ensures { call_rules.run_called result image.new memory.new ≡ file_call_rules.run_file image.old file.now memory.old start }
+#[tactic(auto, unfolding(crate::specs::FileCalls::run_file))]
+pub fn run_file(
+    image: &mut [u32; 67],
+    file: &[u8],
+    memory: &mut [u8],
+    start: usize,
+) -> Result<(), Refusal>
+    ensures { call_rules.run_called (outcome result) image.new memory.new ≡ file_call_rules.run_file image.old file.now memory.old start }
 {
-    let after = files::run_file(file, memory, start);
-    store_device(image, after)
+    *image = image_in_one(files::run_file(file, memory, start)?);
+    Ok(())
 }
 
 // A trace file on a device made with a depth.
+#[tactic(auto, unfolding(crate::specs::FileCalls::run_file_depth))]
 pub fn run_file_depth(
     image: &mut [u32; 67],
     depth: u32,
     file: &[u8],
     memory: &mut [u8],
     start: usize,
-) -> u32
-    ensures { call_rules.run_called result image.new memory.new ≡ file_call_rules.run_file_depth image.old depth file.now memory.old start }
+) -> Result<(), Refusal>
+    ensures { call_rules.run_called (outcome result) image.new memory.new ≡ file_call_rules.run_file_depth image.old depth file.now memory.old start }
 {
-    let after = files::run_file_of(depth, file, memory, start);
-    store_device(image, after)
+    *image = image_in_one(files::run_file_of(depth, file, memory, start)?);
+    Ok(())
 }
 
-fn put_written(outcome: trace_writer::Written, length: &mut usize) -> u32
-    ensures { call_rules.gave result length.new ≡ call_rules.got length.old (writer_answers.written_length outcome) }
+// The writes that two arrays of C give.
+fn writes_of(offsets: &[u8; 255], values: &[u32; 255]) -> [Write; 255]
+    ensures { result ≡ writing.given 255 offsets.now values.now }
 {
-    match outcome {
-        trace_writer::Written::Length(n) => {
-            *length = n;
-            return 0;
-        }
-        trace_writer::Written::Refused(refusal) => {
-            return refusal.number();
-        }
-    }
+    array::from_fn(|k| Write {
+        offset: offsets[k],
+        value: values[k],
+    })
 }
 
-// A trace file into the lent buffer.
+// A trace file into the lent buffer. C gives the writes as two arrays and a count.
 pub fn trace_write(
     count: usize,
     offsets: &[u8; 255],
@@ -79,44 +76,34 @@ pub fn trace_write(
     samples: &[u32],
     out: &mut [u8],
     length: &mut usize,
-) -> u32
-    ensures { file_call_rules.encoded (call_rules.gave result length.new) out.new ≡ file_call_rules.trace_write (writing.given count offsets.now values.now) samples.now out.old length.old }
+) -> Result<(), Refusal>
+    ensures { file_call_rules.encoded (call_rules.gave (outcome result) length.new) out.new ≡ file_call_rules.trace_write (writing.given count offsets.now values.now) samples.now out.old length.old }
 {
-    let outcome = trace_writer::encode(count, offsets, values, samples, out);
-    put_written(outcome, length)
+    let writes = writes_of(offsets, values);
+    if writes.len() < count {
+        return Err(Refusal::WriteCount);
+    }
+    *length = trace_writer::encode(&writes[..count], samples, out)?;
+    Ok(())
 }
 
-fn put_read(read: Read, item: &mut [u64; 4]) -> u32
-    ensures { file_call_rules.item_called result item.new ≡ file_call_rules.item_words item.old (trace_answers.item read.item) read.place }
+// An item, with the place after it, as four words.
+fn item_words(item: Option<Item>, next: usize) -> [u64; 4]
+    ensures { (old : List ℕ) → file_call_rules.item_called 0 result ≡ file_call_rules.item_words old (trace_answers.item (Ok item)) next }
 {
-    let next = read.place as u64;
-    let found = read.item;
-    match found {
-        Item::Write(w) => {
-            let offset = w.offset as u64;
-            let value = w.value as u64;
-            *item = [1, offset, value, next];
-            return 0;
-        }
-        Item::Sample(w) => {
-            let value = w as u64;
-            *item = [2, 0, value, next];
-            return 0;
-        }
-        Item::End => {
-            *item = [0, 0, 0, next];
-            return 0;
-        }
-        Item::Refused(refusal) => {
-            return refusal.number();
-        }
+    match item {
+        None => [0, 0, 0, next as u64],
+        Some(Item::Write(Write { offset, value })) => [1, offset as u64, value as u64, next as u64],
+        Some(Item::Sample(w)) => [2, 0, w as u64, next as u64],
     }
 }
 
 // The item at a place of a trace file.
-pub fn trace_item(file: &[u8], place: usize, item: &mut [u64; 4]) -> u32
-    ensures { file_call_rules.item_called result item.new ≡ file_call_rules.trace_item file.now place item.old }
+#[tactic(auto, unfolding(crate::specs::FileCalls::trace_item))]
+pub fn trace_item(file: &[u8], place: usize, item: &mut [u64; 4]) -> Result<(), Refusal>
+    ensures { file_call_rules.item_called (outcome result) item.new ≡ file_call_rules.trace_item file.now place item.old }
 {
-    let read = trace_reader::read_once(file, place);
-    put_read(read, item)
+    let read = read_once(file, place);
+    *item = item_words(read.item?, read.place);
+    Ok(())
 }

@@ -8,8 +8,7 @@ use native.Mathlib.Numerals.{add-one}
 use native.Mathlib.Omega.{arith}
 use lib.Dec.{eqb}
 use Rattle.registers.specs.Map.{register_at}
-use Rattle.registers.specs.declared.Found.{Found}
-use Rattle.registers.specs.declared.Found.TheVariants.{At, Nothing}
+use Rattle.std.specs.Prelude.{Option, Some, None}
 use Rattle.rules.specs.declared.Device.{Device}
 use Rattle.rules.specs.State.{fresh_of, fresh}
 use Rattle.rules.specs.Answers.{Changed}
@@ -23,12 +22,13 @@ use Rattle.laws.proofs.KeepsWrites.{write_keeps}
 use Rattle.trace_format.specs.declared.Write.{Write}
 use Rattle.trace_format.specs.Reading as reading
 use Rattle.trace_format.proofs.Walk.{write_place}
+use Rattle.registers.specs.declared.Register.{Register}
 use Rattle.file_rules.specs.File.{set_up}
 
-found_samples : (d : Device) (r : Found) (v : ℕ) → (write_at d r v).core.output.counts.samples ≡ d.core.output.counts.samples
+found_samples : (d : Device) (r : Option Register) (v : ℕ) → (write_at d r v).core.output.counts.samples ≡ d.core.output.counts.samples
 unfolding write_at discard holding with_held count_discarded with_counts
-found_samples d Nothing v = refl
-found_samples d (At r) v = either (λ (x : OutputState). x.output.counts.samples ≡ d.core.output.counts.samples) (disables d.core.capture.registers.cr r v) refl refl
+found_samples d None v = refl
+found_samples d (Some r) v = either (λ (x : OutputState). x.output.counts.samples ≡ d.core.output.counts.samples) (disables d.core.capture.registers.cr r v) refl refl
 
 pub write_samples : (d : Device) (offset v : ℕ) → (write d offset v).device.core.output.counts.samples ≡ d.core.output.counts.samples
 unfolding write
@@ -39,11 +39,6 @@ pub record Setting (d₀ : Device) (file : List ℕ) (d : Device) (place : ℕ) 
   pub leads : set_up d (reading.writes_from file place (reading.write_count file - place)) ≡ set_up d₀ (reading.writes_of file)
   pub well : malformed d ≡ false
   pub samples : d.core.output.counts.samples ≡ 0
-
-pub starting : (d₀ : Device) (file : List ℕ) → malformed d₀ ≡ false → d₀.core.output.counts.samples ≡ 0 → Setting d₀ file d₀ 0
-starting d₀ file well none =
-    let all : reading.write_count file - 0 ≡ reading.write_count file = omega arith in
-    record { leads = rw all; well = well; samples = none }
 
 -- A device made with a depth is such a start.
 pub made_ready : (depth : ℕ) → eqb (made depth).number 0 ≡ true → (malformed (made depth).device ≡ false) × ((made depth).device.core.output.counts.samples ≡ 0)

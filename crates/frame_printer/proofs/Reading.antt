@@ -1,11 +1,8 @@
--- What a read gave: a number of bytes at the front of a buffer's front is one of the buffer; and a state that has taken some parts, with one more.
+-- A state that has taken some parts of a file, with one more; and what is printed of it.
 use mathlib.Core.List.{List, [], ◌∷◌, ◌++◌}
 use mathlib.Core.Path.{◌≡◌, refl, sym, ap, ◌∙◌}
-use Prim.Native.Nat.{ℕ, ◌≤◌, ◌<◌}
-use native.Mathlib.Omega.{arith}
-use lib.ListN.{length, take, get_or}
-use lib.Seq.{length-take-le}
-use Rattle.std.specs.Counts.{IsPrefixLen}
+use Prim.Native.Nat.{ℕ, ◌<◌}
+use lib.ListN.{get_or}
 use Rattle.rules.specs.declared.Device.{Device}
 use Rattle.rules.specs.State.{fresh}
 use Rattle.file_rules.specs.Parts.{State, Taken, opened, take_bytes, take_parts, ended, run_parts, joined}
@@ -13,31 +10,7 @@ use Rattle.parts.specs.declared.Parts.{Parts}
 use Rattle.parts.specs.Answers.{state, taken}
 use Rattle.printing.specs.Printed.{printed, blank, printed_file}
 use Rattle.printing.proofs.PrintedByParts.{printed_by_parts}
-use Rattle.frame_printer.specs.declared.Input.{Input}
-use Rattle.frame_printer.specs.declared.Input.TheVariants.{Bytes, End, Failed}
-use Rattle.frame_printer.specs.Reading.{Moved, Given, begun, ByParts}
-
-pub counted : (buffer : List ℕ) (n r : ℕ) → n ≤ length buffer → IsPrefixLen r (take n buffer) → (r ≤ n) × IsPrefixLen r buffer
-counted buffer n r room few =
-    let front : length (take n buffer) ≡ n = length-take-le n buffer room in
-    let low : r ≤ n = omega (arith, few.0) in
-    (low, (omega arith, sym (length-take-le r buffer (omega arith))))
-
-pub given_bytes : (r : Input) (buffer : List ℕ) (n k : ℕ) → (k ≤ n) × IsPrefixLen k buffer → Moved k r → Given buffer n r
-given_bytes (Bytes j) buffer n k few moved = (moved.1, rw moved.0 few.0, rw moved.0 few.1)
-given_bytes End buffer n k few moved = tt
-given_bytes Failed buffer n k few moved = tt
-
--- The bytes that were given.
-pub record Some (n k : ℕ) (buffer : List ℕ) : Type 0 where
-  pub some : 0 < k
-  pub few : k ≤ n
-  pub counts : IsPrefixLen k buffer
-
-pub some_bytes : (r : Input) (buffer : List ℕ) (n k : ℕ) → r ≡ Bytes k → Given buffer n r → Some n k buffer
-some_bytes r buffer n k e given =
-    let (some, few, counts) = rw e at given in
-    record { some = some; few = few; counts = counts }
+use Rattle.frame_printer.specs.Reading.{begun, ByParts}
 
 -- One part more.
 part_more : (start : ℕ) (t : Taken) (ps : List (List ℕ)) (p : List ℕ) → take_parts start t (ps ++ (p ∷ [])) ≡ take_bytes start (take_parts start t ps) p

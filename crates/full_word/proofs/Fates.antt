@@ -1,12 +1,13 @@
 -- Rule 9 of a padded word, and of a word by codes, from that of a full one. The idea: by what became of the word. Assumes nothing.
 use mathlib.Core.Bool.{Bool, true, false}
-use mathlib.Core.Option.{some}
+use Rattle.std.specs.Prelude.{Some}
 use mathlib.Core.Path.{◌≡◌, refl}
 use Prim.Native.Nat.{ℕ}
 use native.Mathlib.Omega.{arith}
 use Rattle.output.specs.declared.Fate.{Fate}
 use Rattle.output.specs.declared.Fate.TheVariants.{Held, Lost}
-use Rattle.output.specs.Output.{OutputState, offer, nothing, completed, lost}
+use Rattle.output.specs.Output.{OutputState, offer}
+use Rattle.output.specs.declared.Packing.TheVariants.{Nothing as nothing, Completed as completed, Lost as lost}
 use Rattle.rules.specs.declared.Capture.{Capture}
 use Rattle.rules.specs.State.{device, output_of, raise}
 use Rattle.rules.specs.Capture.{Captured, flagged}
@@ -39,6 +40,6 @@ unfolding after_word flagged
 after_word_coded Held v c x = refl
 after_word_coded Lost v c x = refl
 
-pub word_coded : {due : Bool} (v : ℕ) (c : Captured) (x : OutputState) → c.due ≡ due → complete (some v) (with_word v due c.state) x ≡ complete (some v) c x
+pub word_coded : {due : Bool} (v : ℕ) (c : Captured) (x : OutputState) → c.due ≡ due → complete (Some v) (with_word v due c.state) x ≡ complete (Some v) c x
 unfolding complete
 word_coded v c x e = rw (← e) (after_word_coded (offer v x).fate v c (offer v x).state)

@@ -1,7 +1,7 @@
 -- Output and frame buffer beside a queue: rule 1 does to them what `leave` does to the queue, and rule 9, where a word finds room, what `arrive` does.
 use mathlib.Core.Bool.{Bool, true, false}
 use mathlib.Core.List.{List, [], ◌∷◌, ◌++◌}
-use mathlib.Core.Option.{Option, none, some}
+use Rattle.std.specs.Prelude.{Option, None, Some}
 use mathlib.Core.Path.{◌≡◌, refl, ap, ◌∙◌}
 use Prim.Native.Nat.{ℕ, ◌+◌, ◌*◌, ◌-◌, ◌≤◌, ◌<◌}
 use native.Mathlib.Omega.{arith}
@@ -64,13 +64,13 @@ unfolding offer
 offer_held v x space = rw (lt-ltb x.output.held x.output.depth space)
 
 take_in_beside : {depth : ℕ} {b₀ : List ℕ} {q : Queue ℕ} {x : OutputState} {b : List ℕ} (g : Bool) (o : Option ℕ)
-    → ((v : ℕ) → o ≡ some v → length q.held < depth) → Beside depth b₀ q x b
+    → ((v : ℕ) → o ≡ Some v → length q.held < depth) → Beside depth b₀ q x b
     → Beside depth b₀ (arrive depth (record { grant = g; word = o }) q) (take_in o x) b
 unfolding arrive take_in holding with_held count_word with_counts
-take_in_beside g none space r = r
-take_in_beside {depth} {q = q} {x = x} g (some v) space r =
+take_in_beside g None space r = r
+take_in_beside {depth} {q = q} {x = x} g (Some v) space r =
     let fewer = space v refl in
-    let is : take_in (some v) x ≡ _ = ap (λ (r : Offered). r.state) (offer_held v x (omega arith)) in
+    let is : take_in (Some v) x ≡ _ = ap (λ (r : Offered). r.state) (offer_held v x (omega arith)) in
     let long : length (contents x ++ v ∷ []) ≡ x.output.held + 1 = rw (r.contents, length-append) (omega arith) in
     rw (lt-ltb (length q.held) depth fewer, is)
     (record {
@@ -104,6 +104,6 @@ module _ {depth : ℕ} {b₀ : List ℕ} {q : Queue ℕ} (on : Bool) (o : Out) (
         lost = r.lost;
       })
 
-  pub put_beside : ((v : ℕ) → i.word ≡ some v → length (leave i q).held < depth) → Beside depth b₀ (sample depth q i) (put on o i).state (put on o i).buffer
+  pub put_beside : ((v : ℕ) → i.word ≡ Some v → length (leave i q).held < depth) → Beside depth b₀ (sample depth q i) (put on o i).state (put on o i).buffer
   unfolding sample put
   put_beside finds = take_in_beside i.grant i.word finds rule_beside

@@ -1,7 +1,7 @@
 -- Under the conditions every word finds room (`fits`, `oldest_room`), and what is promised of memory and FIFO holds after any first part of the inputs (`landed`).
 use mathlib.Core.Bool.{Bool, true, false}
 use mathlib.Core.List.{List, [], ◌∷◌, ◌++◌, append_assoc, append-nil}
-use mathlib.Core.Option.{some}
+use Rattle.std.specs.Prelude.{Some}
 use mathlib.Core.Path.{◌≡◌, refl, ap, ◌∙◌}
 use Prim.Native.Nat.{ℕ, ◌+◌, ◌*◌, ◌≤◌, ◌<◌}
 use native.Mathlib.Omega.{arith}
@@ -35,16 +35,16 @@ module _ {on : Bool} {depth s : ℕ} {b₀ : List ℕ} where
     enabled pos = go on c.enabled
       where
         go : (b : Bool) → (b ≡ false → words (ps ++ i ∷ zs) ≡ []) → b ≡ true
-        go true none = refl
-        go false none = absurd (omega (arith, few, ap length (none refl)))
+        go true None = refl
+        go false None = absurd (omega (arith, few, ap length (None refl)))
 
-    finds : (v : ℕ) → i.word ≡ some v → length (leave i (after depth ps)).held < depth
+    finds : (v : ℕ) → i.word ≡ Some v → length (leave i (after depth ps)).held < depth
     finds v e = finds_room depth s ps i zs v c.deep c.positive c.granted c.spaced e
 
     space : 4 * (length (after depth ps).left + length (after depth ps).held) ≤ length b₀
     space = omega (arith, few, c.room)
 
-    has_room : (v : ℕ) → i.word ≡ some v → (first_rule on o i).state.output.held < (first_rule on o i).state.output.depth
+    has_room : (v : ℕ) → i.word ≡ Some v → (first_rule on o i).state.output.held < (first_rule on o i).state.output.depth
     has_room v e =
         let b = rule_beside on o i enabled space r in
         omega (arith, finds v e, b.held, b.depth)

@@ -1,7 +1,6 @@
 -- The output rules over a list of inputs, each a grant and a word or none, with ENABLE as a truth value: the conditions under which no word is lost, and what
 -- then has landed. Which words come, and what a lost word does, is the matter of the module above.
-use Rattle.std.specs.Prelude.{Bool, false, List, [], ◌∷◌, ◌++◌, ◌≡◌, ℕ, ◌+◌, ◌*◌, ◌≤◌, ◌<◌, length, take, drop}
-use Rattle.std.proofs.Math.Option.{Option, none, some}
+use Rattle.std.specs.Prelude.{Bool, false, List, [], ◌∷◌, ◌++◌, ◌≡◌, ℕ, ◌+◌, ◌*◌, ◌≤◌, ◌<◌, length, take, drop, Option, None, Some}
 use Rattle.output.specs.Output.{OutputState, contents, count_sample, Granted as Ruled, grant, offer}
 use Rattle.queue.specs.Queue.{Input, words, Granted, Spaced}
 use Rattle.landing.specs.Memory.{with_words}
@@ -17,8 +16,8 @@ first_rule on o i = grant i.grant on (record { output = count_sample o.state.out
 
 -- Rule 9 for a word that finds room, if one comes.
 unfoldable pub take_in : Option ℕ → OutputState → OutputState
-take_in none x = x
-take_in (some v) x = (offer v x).state
+take_in None x = x
+take_in (Some v) x = (offer v x).state
 
 -- One input, and some.
 unfoldable pub put : Bool → Out → Input ℕ → Out
@@ -32,7 +31,7 @@ puts on o (i ∷ is) = puts on (put on o i) is
 abbrev pub Fits : Bool → Out → List (Input ℕ) → Type 0
 Fits on o [] = Unit {0}
 Fits on o (i ∷ is) =
-    ((v : ℕ) → i.word ≡ some v → (first_rule on o i).state.output.held < (first_rule on o i).state.output.depth) × Fits on (put on o i) is
+    ((v : ℕ) → i.word ≡ Some v → (first_rule on o i).state.output.held < (first_rule on o i).state.output.depth) × Fits on (put on o i) is
 
 -- A depth (W9), grants enough for it, words s samples apart, room for all of them in the frame buffer, and none while ENABLE is 0.
 pub record Conditions (on : Bool) (depth s : ℕ) (buffer : List ℕ) (is : List (Input ℕ)) : Type 0 where

@@ -3,7 +3,7 @@
 -- (`without_crop_as_before_W1`). The idea: without JPEG no word is padded, and no sample changes JPEG or CROP. Assumes nothing.
 use mathlib.Core.Bool.{Bool, true, false, ◌&&◌}
 use mathlib.Core.List.{List, [], ◌∷◌}
-use mathlib.Core.Option.{Option, none, some}
+use Rattle.std.specs.Prelude.{Option, None, Some}
 use mathlib.Core.Path.{◌≡◌, refl, ◌∙◌}
 use Prim.Native.Nat.{ℕ}
 use Rattle.bits.proofs.Booleans.{either}
@@ -32,8 +32,8 @@ use Rattle.laws.proofs.UnpaddedSample.{step_unpadded}
 -- W6. Where ERR does not rise rule 9 is as it was.
 rule_9_before : (o : Option ℕ) (c : Captured) (x : OutputState) → c.error ≡ false → complete o c x ≡ complete_before_W6 o c x
 unfolding complete complete_before_W6
-rule_9_before none c x quiet = rw quiet
-rule_9_before (some v) c x quiet = refl
+rule_9_before None c x quiet = rw quiet
+rule_9_before (Some v) c x quiet = refl
 
 -- With ESS 0 a sample goes by the sync pins, and no sample changes ESS.
 by_pins : (s : Capture) (w : ℕ) → embedded s.registers.cr ≡ false → capture_sample s w ≡ capture_sample_before_W6 s w

@@ -2,7 +2,7 @@
 -- pins and OVR stay, and ERR does unless it is said to rise (`Left`). Assumes nothing.
 use mathlib.Core.Bool.{Bool, true, false, true≢false}
 use mathlib.Core.List.{List, [], ◌∷◌}
-use mathlib.Core.Option.{Option, none, some}
+use Rattle.std.specs.Prelude.{Option, None, Some}
 use mathlib.Core.Path.{◌≡◌, refl, sym, ◌∙◌}
 use Prim.Native.Nat.{ℕ, suc, ◌+◌, ◌/◌, ◌≤◌, ◌<◌}
 use native.Mathlib.Nat.{sub-le}
@@ -172,8 +172,8 @@ at_code_left m s on =
 -- Data of an open line, in order: the partial word alone changes. Without a word so many join it at most; a word comes where they reach so many as it takes, and the last
 -- of them at most are left.
 abbrev pub Grown : ℕ → ℕ → ℕ → ℕ → Option ℕ → Type 0
-Grown q many count after none = after ≤ count + many
-Grown q many count after (some v) = (q ≤ count + many) × (after + 1 ≤ many)
+Grown q many count after None = after ≤ count + many
+Grown q many count after (Some v) = (q ≤ count + many) × (after + 1 ≤ many)
 
 pub record Joined (s : Capture) (many : ℕ) (c : Captured) : Type 0 where
   pub registers : c.state.registers ≡ s.registers
@@ -194,7 +194,7 @@ pack_joined s x taken =
     let q = per_word (edm s.registers.cr) in
     let short = ltb (p + 1) q in
     let part : Captured = no_word (with_partial (record { count = p + 1; bits = packed_bits s x }) s) in
-    let full : Captured = record { state = with_partial no_partial s; word = some (packed_bits s x); due = false; error = false } in
+    let full : Captured = record { state = with_partial no_partial s; word = Some (packed_bits s x); due = false; error = false } in
     record {
       registers = either {x = part} {y = full} (λ (c : Captured). c.state.registers ≡ s.registers) short refl refl;
       pins = either {x = part} {y = full} (λ (c : Captured). c.state.pins ≡ s.pins) short refl refl;
@@ -227,10 +227,10 @@ joined_then s many c r a b =
     go : (q : ℕ) (v u : Option ℕ) → Grown q 1 s.partial.count c.state.partial.count v
         → Grown q many c.state.partial.count r.state.partial.count u
         → Grown q (suc many) s.partial.count r.state.partial.count (either_word v u)
-    go q none none g h = omega arith
-    go q none (some u) g h = (omega arith, omega arith)
-    go q (some v) none g h = (omega arith, omega arith)
-    go q (some v) (some u) g h = (omega arith, omega arith)
+    go q None None g h = omega arith
+    go q None (Some u) g h = (omega arith, omega arith)
+    go q (Some v) None g h = (omega arith, omega arith)
+    go q (Some v) (Some u) g h = (omega arith, omega arith)
 
 pub each_joined : (s : Capture) (taken : Bool) (f g : Scan) (xs : List ℕ) (still : ℕ) → s.frame ≡ Open taken g
     → Joined s (length xs) (each_datum s taken f xs still)

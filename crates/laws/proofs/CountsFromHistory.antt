@@ -3,7 +3,7 @@
 -- to be well-formed for it. Assumes nothing.
 use mathlib.Core.Bool.{Bool, true, false, cond, not, ◌&&◌}
 use mathlib.Core.List.{List, [], ◌∷◌, ◌++◌}
-use mathlib.Core.Option.{Option, none, some}
+use Rattle.std.specs.Prelude.{Option, None, Some}
 use mathlib.Core.Path.{◌≡◌, refl, ap, ◌∙◌}
 use Prim.Native.Nat.{ℕ}
 use native.Mathlib.Omega.{arith}
@@ -13,8 +13,6 @@ use Rattle.bits.proofs.Booleans.{by_cond, either}
 use Rattle.registers.specs.Control.{enable}
 use Rattle.registers.specs.Map.{register_at}
 use Rattle.registers.specs.declared.Register.TheVariants.{Control, Status, RawStatus, InterruptEnable, MaskedStatus, InterruptClear, EmbeddedCode, EmbeddedUnmask, WindowStart, WindowSize}
-use Rattle.registers.specs.declared.Found.{Found}
-use Rattle.registers.specs.declared.Found.TheVariants.{At, Nothing}
 use Rattle.refusals.specs.Refusals.{◌⇒◌, first}
 use Rattle.samples.specs.Samples.{bus_grant}
 use Rattle.output.specs.Output.{OutputState, with_held, holding, with_counts, with_place, count_sample, count_word, count_discarded, fresh_output, Offered, offer, discard, counted}
@@ -29,10 +27,11 @@ use Rattle.laws.specs.Histories.{Call, a_write, a_rearming, a_placing, a_run, a_
 use Rattle.output.specs.Ledger.{Ledger, blank, sample_entry, numbers}
 use Rattle.laws.specs.Ledger.{word_entry, error_entry, enter, enter_all, ledger}
 use Rattle.laws.proofs.Errors.{no_word_in_error}
+use Rattle.registers.specs.declared.Register.{Register}
 use Rattle.laws.proofs.KeepsSample.{step_enable}
 
 -- Rule 9.
-held_or_lost : (v : ℕ) (c : Captured) (x : OutputState) → let a = complete (some v) c x in word_entry a.packed (numbers x.output) ≡ numbers a.device.core.output
+held_or_lost : (v : ℕ) (c : Captured) (x : OutputState) → let a = complete (Some v) c x in word_entry a.packed (numbers x.output) ≡ numbers a.device.core.output
 unfolding complete after_word offer word_entry holding with_held discard count_word count_discarded with_counts
 held_or_lost v c x =
     either
@@ -46,13 +45,13 @@ unfolding error_entry
 emptied true x = discard_entered x
 emptied false x = refl
 
-complete_counted : (o : Option ℕ) (c : Captured) (x : OutputState) → (c.error ≡ true → o ≡ none)
+complete_counted : (o : Option ℕ) (c : Captured) (x : OutputState) → (c.error ≡ true → o ≡ None)
     → error_entry c.error (word_entry (complete o c x).packed (numbers x.output)) ≡ numbers (complete o c x).device.core.output
 unfolding complete word_entry error_entry
-complete_counted none c x alone = emptied c.error x
-complete_counted (some v) c x alone = ap (λ rises. error_entry rises (word_entry (complete (some v) c x).packed (numbers x.output))) (without_error c.error v alone) ∙ held_or_lost v c x
+complete_counted None c x alone = emptied c.error x
+complete_counted (Some v) c x alone = ap (λ rises. error_entry rises (word_entry (complete (Some v) c x).packed (numbers x.output))) (without_error c.error v alone) ∙ held_or_lost v c x
   where
-    without_error : (rises : Bool) (v : ℕ) → (rises ≡ true → some v ≡ none) → rises ≡ false
+    without_error : (rises : Bool) (v : ℕ) → (rises ≡ true → Some v ≡ None) → rises ≡ false
     without_error false v h = refl
     without_error true v h = let e = h refl in let z : ◌≡◌ {A = ℕ} 0 1 = cc in absurd (omega arith)
 
@@ -92,19 +91,19 @@ unfolding enter_all enter
 control_counted true x = discard_entered x
 control_counted false x = refl
 
-write_at_counted : (d : Device) (r : Found) (v : ℕ) → Tell (disabling_of d (write_at d r v)) d (write_at d r v)
+write_at_counted : (d : Device) (r : Option Register) (v : ℕ) → Tell (disabling_of d (write_at d r v)) d (write_at d r v)
 unfolding write_at write_register write_control disabling_of with_registers with_cr with_ier clear_flags with_ris with_cwstrt with_cwsize with_escr with_esur enter_all
-write_at_counted d Nothing v = rw (none_disabled d d refl)
-write_at_counted d (At Control) v = control_counted (enable d.core.capture.registers.cr && not (enable v)) (output_of d)
-write_at_counted d (At Status) v = rw (none_disabled d _ refl)
-write_at_counted d (At RawStatus) v = rw (none_disabled d _ refl)
-write_at_counted d (At InterruptEnable) v = rw (none_disabled d _ refl)
-write_at_counted d (At MaskedStatus) v = rw (none_disabled d _ refl)
-write_at_counted d (At InterruptClear) v = rw (none_disabled d _ refl)
-write_at_counted d (At EmbeddedCode) v = rw (none_disabled d _ refl)
-write_at_counted d (At EmbeddedUnmask) v = rw (none_disabled d _ refl)
-write_at_counted d (At WindowStart) v = rw (none_disabled d _ refl)
-write_at_counted d (At WindowSize) v = rw (none_disabled d _ refl)
+write_at_counted d None v = rw (none_disabled d d refl)
+write_at_counted d (Some Control) v = control_counted (enable d.core.capture.registers.cr && not (enable v)) (output_of d)
+write_at_counted d (Some Status) v = rw (none_disabled d _ refl)
+write_at_counted d (Some RawStatus) v = rw (none_disabled d _ refl)
+write_at_counted d (Some InterruptEnable) v = rw (none_disabled d _ refl)
+write_at_counted d (Some MaskedStatus) v = rw (none_disabled d _ refl)
+write_at_counted d (Some InterruptClear) v = rw (none_disabled d _ refl)
+write_at_counted d (Some EmbeddedCode) v = rw (none_disabled d _ refl)
+write_at_counted d (Some EmbeddedUnmask) v = rw (none_disabled d _ refl)
+write_at_counted d (Some WindowStart) v = rw (none_disabled d _ refl)
+write_at_counted d (Some WindowSize) v = rw (none_disabled d _ refl)
 
 -- The events of two lists are entered one list after the other.
 enter_append : (l : Ledger) (es fs : List Event) → enter_all l (es ++ fs) ≡ enter_all (enter_all l es) fs

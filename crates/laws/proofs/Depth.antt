@@ -6,8 +6,7 @@ use lib.Dec.{eqb, ltb}
 use lib.ListN.{drop}
 use Rattle.bits.proofs.Booleans.{either}
 use Rattle.registers.specs.Map.{register_at}
-use Rattle.registers.specs.declared.Found.{Found}
-use Rattle.registers.specs.declared.Found.TheVariants.{At, Nothing}
+use Rattle.std.specs.Prelude.{Option, Some, None}
 use Rattle.refusals.specs.Refusals.{◌⇒◌, first}
 use Rattle.samples.specs.Samples.{bus_grant}
 use Rattle.output.specs.Output.{OutputState, with_held, holding, with_counts, with_place, count_sample, count_discarded, fresh_output, discard, counted}
@@ -19,6 +18,7 @@ use Rattle.rules.specs.Run.{after_grant, step, steps, run_refusal, run, sample}
 use Rattle.rules.specs.WellFormed.{malformed}
 use Rattle.laws.specs.Histories.{Call, a_write, a_rearming, a_placing, a_run, a_sample, after, reached}
 use Rattle.laws.proofs.KeepsSample.{by_word}
+use Rattle.registers.specs.declared.Register.{Register}
 use Rattle.laws.proofs.Conservation.{calls_keep}
 
 abbrev Has : ℕ → Device → Type 0
@@ -35,10 +35,10 @@ unfolding steps
 steps_depth d b [] = refl
 steps_depth d b (w ∷ ws) = steps_depth (step d b w).device (step d b w).buffer ws ∙ step_depth d b w
 
-write_at_depth : (d : Device) (r : Found) (v : ℕ) → Has d.core.output.depth (write_at d r v)
+write_at_depth : (d : Device) (r : Option Register) (v : ℕ) → Has d.core.output.depth (write_at d r v)
 unfolding write_at discard holding with_held count_discarded with_counts
-write_at_depth d Nothing v = refl
-write_at_depth d (At r) v = either (λ (x : OutputState). x.output.depth ≡ d.core.output.depth) (disables d.core.capture.registers.cr r v) refl refl
+write_at_depth d None v = refl
+write_at_depth d (Some r) v = either (λ (x : OutputState). x.output.depth ≡ d.core.output.depth) (disables d.core.capture.registers.cr r v) refl refl
 
 call_depth : (depth : ℕ) (d : Device) (c : Call) → Has depth d → Has depth (after d c)
 unfolding after write rearm rearmed with_place run sample

@@ -2,7 +2,7 @@
 -- after the sample (`risen_in_error`), and the frame is gone (`fallen_in_error`). The idea: by codes `errs` alone says so. Assumes nothing.
 use mathlib.Core.Bool.{Bool, true, false, ◌&&◌, true≢false}
 use mathlib.Core.List.{List, [], ◌∷◌}
-use mathlib.Core.Option.{none}
+use Rattle.std.specs.Prelude.{None}
 use mathlib.Core.Path.{◌≡◌, refl, sym, ◌∙◌}
 use Prim.Native.Nat.{ℕ}
 use Rattle.bits.specs.Bits.{bit}
@@ -30,7 +30,7 @@ pub record Fallen (c : Captured) : Type 0 where
 
 -- What is to be shown: where ERR is said to rise there is no word, bit 2 of RIS is 1, and the frame is gone.
 record Said (c : Captured) : Type 0 where
-  alone : c.error ≡ true → c.word ≡ none
+  alone : c.error ≡ true → c.word ≡ None
   risen : c.error ≡ true → bit 2 c.state.registers.ris ≡ true
   fallen : c.error ≡ true → Fallen c
 
@@ -67,7 +67,7 @@ sample_said : (s : Capture) (w : ℕ) → Said (capture_sample s w)
 unfolding at_edge no_word
 sample_said s w = by_sample Said s w (at_byte_said _ _) (silent _ refl) (silent _ refl)
 
-pub no_word_in_error : (s : Capture) (w : ℕ) → (capture_sample s w).error ≡ true → (capture_sample s w).word ≡ none
+pub no_word_in_error : (s : Capture) (w : ℕ) → (capture_sample s w).error ≡ true → (capture_sample s w).word ≡ None
 no_word_in_error s w = (sample_said s w).alone
 
 pub risen_in_error : (s : Capture) (w : ℕ) → (capture_sample s w).error ≡ true → bit 2 (capture_sample s w).state.registers.ris ≡ true

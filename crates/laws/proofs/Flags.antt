@@ -16,8 +16,7 @@ use Rattle.registers.specs.Control.{embedded, snapshot, enable}
 use Rattle.registers.specs.Map.{register_at}
 use Rattle.registers.specs.declared.Register.{Register}
 use Rattle.registers.specs.declared.Register.TheVariants.{Control, Status, RawStatus, InterruptEnable, MaskedStatus, InterruptClear, EmbeddedCode, EmbeddedUnmask, WindowStart, WindowSize}
-use Rattle.registers.specs.declared.Found.{Found}
-use Rattle.registers.specs.declared.Found.TheVariants.{At, Nothing}
+use Rattle.std.specs.Prelude.{Option, Some, None}
 use Rattle.refusals.specs.Refusals.{◌⇒◌, first}
 use Rattle.rules.specs.declared.Capture.{Capture}
 use Rattle.rules.specs.declared.Device.{Device}
@@ -68,10 +67,10 @@ clears (suc k) x v off = rw (above k (x - bit_and x v), half_cleared x v) (clear
 abbrev NoError : Device → Type 0
 NoError d = bit 2 d.core.capture.registers.ris ≡ false
 
-write_at_error : (d : Device) (r : Found) (v : ℕ) → NoError d → NoError (write_at d r v)
+write_at_error : (d : Device) (r : Option Register) (v : ℕ) → NoError d → NoError (write_at d r v)
 unfolding write_at
-write_at_error d Nothing v low = low
-write_at_error d (At r) v low =
+write_at_error d None v low = low
+write_at_error d (Some r) v low =
     write_flags (λ x. bit 2 x ≡ false) (λ x y h. ne_eqb _ 1 (clears 2 x y (eqb-false _ 1 h))) v d.core.capture low r
 
 -- A sample raises ERR where the rules say so, and clears it never.

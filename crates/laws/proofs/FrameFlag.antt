@@ -3,7 +3,7 @@
 -- The idea: rule 3 and an overrun raise other flags, and what is left leaves RIS. Assumes nothing.
 use mathlib.Core.Bool.{Bool, true, false, cond, not, ◌&&◌, ◌||◌}
 use mathlib.Core.List.{List}
-use mathlib.Core.Option.{Option, none, some}
+use Rattle.std.specs.Prelude.{Option, None, Some}
 use mathlib.Core.Path.{◌≡◌, refl, sym, ap, ◌∙◌}
 use Prim.Native.Nat.{ℕ, ◌+◌}
 use native.Mathlib.Omega.{arith}
@@ -169,8 +169,8 @@ after_word_flag Lost v c x = rw (and_zero c.due, or_unit (flag c.state)) (lose_f
 complete_flag : (o : Option ℕ) (c : Captured) (x : OutputState)
     → let r = complete o c x in flag r.device.core.capture ≡ flag c.state || (c.due && not (is_lost r.packed))
 unfolding complete is_lost
-complete_flag none c x = rw (and_unit c.due) (flagged_flag c)
-complete_flag (some v) c x = after_word_flag (offer v x).fate v c (offer v x).state
+complete_flag None c x = rw (and_unit c.due) (flagged_flag c)
+complete_flag (Some v) c x = after_word_flag (offer v x).fate v c (offer v x).state
 
 pub frame_rises_by_rule_4 : (d : Device) (b : List ℕ) (w : ℕ)
     → let s = d.core.capture in let r = step d b w in bit 0 r.device.core.capture.registers.ris

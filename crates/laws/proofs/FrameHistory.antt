@@ -5,7 +5,7 @@
 -- (`Moments`). Assumes nothing.
 use mathlib.Core.Bool.{Bool, true, false, cond, not, ◌&&◌}
 use mathlib.Core.List.{List, [], ◌∷◌, ◌++◌}
-use mathlib.Core.Option.{Option}
+use Rattle.std.specs.Prelude.{Option, Some, None}
 use mathlib.Core.Path.{◌≡◌, refl}
 use Prim.Native.Nat.{ℕ, ◌≤◌}
 use native.Mathlib.Omega.{arith}
@@ -19,8 +19,6 @@ use Rattle.codes.specs.Bytes.{is_code}
 use Rattle.codes.specs.Meaning.{meaning}
 use Rattle.registers.specs.Map.{register_at}
 use Rattle.registers.specs.declared.Register.TheVariants.{Control, Status, RawStatus, InterruptEnable, MaskedStatus, InterruptClear, EmbeddedCode, EmbeddedUnmask, WindowStart, WindowSize}
-use Rattle.registers.specs.declared.Found.{Found}
-use Rattle.registers.specs.declared.Found.TheVariants.{At, Nothing}
 use Rattle.refusals.specs.Refusals.{◌⇒◌, first}
 use Rattle.refusals.proofs.Accepted.{accepted}
 use Rattle.samples.specs.Samples.{pixel_data}
@@ -38,7 +36,7 @@ use Rattle.rules.specs.Capture.{Captured, no_word, working_edge, enabled, rememb
 use Rattle.rules.specs.Codes.{at_byte}
 use Rattle.rules.specs.Sample.{byte_of, edge, capture_sample}
 use Rattle.rules.specs.RegisterCalls.{changes_setup, fixed_at, register_tests, enabling, disabling, switch_enable, capture_rises, switch_capture, write_control, clear_flags, write_register, write_at, write_refusal, write, rearmed, rearm}
-use Rattle.output.specs.Output.{Packed}
+use Rattle.output.specs.declared.Packing.{Packing as Packed}
 use Rattle.rules.specs.Run.{lose_frame, after_grant, step, steps, run_refusal, run, sample}
 use Rattle.rules.specs.WellFormed.{malformed}
 use Rattle.rules.proofs.WellFormed.{CaptureOk, facts}
@@ -51,6 +49,7 @@ use Rattle.laws.proofs.Keeps.{fresh_well_formed}
 use Rattle.laws.proofs.Conservation.{call_keeps}
 use Rattle.laws.proofs.Moments.{at_moment, at_sample}
 use Rattle.laws.proofs.FrameCodes.{pins_byte_entry, at_byte_told, frame_end_risen}
+use Rattle.registers.specs.declared.Register.{Register}
 use Rattle.laws.proofs.FrameEdges.{Told, once, none_told, blanks, at_edge_told, ends_risen}
 
 -- A sample. The remembered levels play no part.
@@ -114,20 +113,20 @@ window_told s r h ok free told =
     let off : enable s.registers.cr ≡ false = rw (and_unit (enable s.registers.cr)) at free in
     none_told (with_registers r s) h (closed_frame s.frame (ok.idle off).0) (once s h told)
 
-write_at_told : {n : ℕ} (d : Device) (r : Found) (v : ℕ) (h : FrameHistory) → CaptureOk n d.core.capture → fixed_at d.core.capture.registers.cr r v ≡ false
+write_at_told : {n : ℕ} (d : Device) (r : Option Register) (v : ℕ) (h : FrameHistory) → CaptureOk n d.core.capture → fixed_at d.core.capture.registers.cr r v ≡ false
     → Told d.core.capture h → Told (write_at d r v).core.capture h
 unfolding write_at write_register with_registers with_ier clear_flags with_ris
-write_at_told d Nothing v h ok free told = told
-write_at_told d (At Control) v h ok free told = control_told d.core.capture v h ok free told
-write_at_told d (At Status) v h ok free told = told
-write_at_told d (At RawStatus) v h ok free told = told
-write_at_told d (At InterruptEnable) v h ok free told = told
-write_at_told d (At MaskedStatus) v h ok free told = told
-write_at_told d (At InterruptClear) v h ok free told = told
-write_at_told d (At EmbeddedCode) v h ok free told = window_told d.core.capture (with_escr v d.core.capture.registers) h ok free told
-write_at_told d (At EmbeddedUnmask) v h ok free told = window_told d.core.capture (with_esur v d.core.capture.registers) h ok free told
-write_at_told d (At WindowStart) v h ok free told = window_told d.core.capture (with_cwstrt v d.core.capture.registers) h ok free told
-write_at_told d (At WindowSize) v h ok free told = window_told d.core.capture (with_cwsize v d.core.capture.registers) h ok free told
+write_at_told d None v h ok free told = told
+write_at_told d (Some Control) v h ok free told = control_told d.core.capture v h ok free told
+write_at_told d (Some Status) v h ok free told = told
+write_at_told d (Some RawStatus) v h ok free told = told
+write_at_told d (Some InterruptEnable) v h ok free told = told
+write_at_told d (Some MaskedStatus) v h ok free told = told
+write_at_told d (Some InterruptClear) v h ok free told = told
+write_at_told d (Some EmbeddedCode) v h ok free told = window_told d.core.capture (with_escr v d.core.capture.registers) h ok free told
+write_at_told d (Some EmbeddedUnmask) v h ok free told = window_told d.core.capture (with_esur v d.core.capture.registers) h ok free told
+write_at_told d (Some WindowStart) v h ok free told = window_told d.core.capture (with_cwstrt v d.core.capture.registers) h ok free told
+write_at_told d (Some WindowSize) v h ok free told = window_told d.core.capture (with_cwsize v d.core.capture.registers) h ok free told
 
 write_told : (d : Device) (offset v : ℕ) (h : FrameHistory) → malformed d ≡ false → Told d.core.capture h → Told (write d offset v).device.core.capture h
 unfolding write write_refusal

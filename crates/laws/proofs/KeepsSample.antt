@@ -2,7 +2,7 @@
 -- The idea: the sample is counted first, which leaves room for one line, one pixel and one word more. Assumes nothing.
 use mathlib.Core.Bool.{true}
 use mathlib.Core.List.{List}
-use mathlib.Core.Option.{Option, none, some}
+use Rattle.std.specs.Prelude.{Option, None, Some}
 use mathlib.Core.Path.{◌≡◌, refl, sym, ◌∙◌}
 use Prim.Native.Nat.{ℕ, ◌+◌, ◌/◌, ◌<◌}
 use native.Mathlib.Omega.{arith}
@@ -39,7 +39,7 @@ lose_frame_ok {n} {s} h =
 
 -- Rule 9, with a word more to be counted.
 full_word_ok : (v : ℕ) (c : Captured) (x : OutputState) → x.output.counts.completed < x.output.counts.samples
-    → enable (flagged c).registers.cr ≡ true → CaptureOk x.output.counts.samples c.state → OutputOk true x → WellFormed (complete (some v) c x).device
+    → enable (flagged c).registers.cr ≡ true → CaptureOk x.output.counts.samples c.state → OutputOk true x → WellFormed (complete (Some v) c x).device
 unfolding complete offer after_word holding with_held discard count_word count_discarded with_counts
 full_word_ok v c x more on h q =
     by_cond (λ (r : Offered). WellFormed (after_word r.fate v c r.state).device) (ltb x.output.held x.output.depth) _ _
@@ -47,14 +47,14 @@ full_word_ok v c x more on h q =
     (λ t. record { capture = lose_frame_ok h; output = lost_ok q more v })
 
 complete_ok : (o : Option ℕ) (c : Captured) (x : OutputState) → x.output.counts.completed < x.output.counts.samples
-    → ((v : ℕ) → o ≡ some v → enable (flagged c).registers.cr ≡ true)
+    → ((v : ℕ) → o ≡ Some v → enable (flagged c).registers.cr ≡ true)
     → CaptureOk x.output.counts.samples c.state → OutputOk (enable (flagged c).registers.cr) x → WellFormed (complete o c x).device
 unfolding complete discard holding with_held count_discarded with_counts
-complete_ok none c x more on h q =
+complete_ok None c x more on h q =
     either (λ (y : OutputState). WellFormed (device (flagged c) y)) c.error
     (record { capture = (flagged_kept c).ok _ h; output = discard_ok q 0 x.output q.depth q.completed q.place (omega (arith, q.equation)) })
     (record { capture = (flagged_kept c).ok _ h; output = q })
-complete_ok (some v) c x more on h q = full_word_ok v c x more (on v refl) h (rw (on v refl) at q)
+complete_ok (Some v) c x more on h q = full_word_ok v c x more (on v refl) h (rw (on v refl) at q)
 
 pub step_keeps : (d : Device) (buffer : List ℕ) (w : ℕ) → WellFormed d → WellFormed (step d buffer w).device
 unfolding step after_grant counted count_sample with_counts next_capture
@@ -77,8 +77,8 @@ pub by_word : (P : Device → Type 0) (o : Option ℕ) (c : Captured) (x : Outpu
     → ((v : ℕ) → P (device (flagged c) (offer v x).state))
     → ((v : ℕ) → P (device (lose_frame c.state) (discard 1 (offer v x).state))) → P (complete o c x).device
 unfolding complete after_word
-by_word P none c x nothing emptied held lost = by_cond (λ (y : OutputState). P (device (flagged c) y)) c.error _ _ emptied (λ e. nothing)
-by_word P (some v) c x nothing emptied held lost = go (offer v x).fate
+by_word P None c x nothing emptied held lost = by_cond (λ (y : OutputState). P (device (flagged c) y)) c.error _ _ emptied (λ e. nothing)
+by_word P (Some v) c x nothing emptied held lost = go (offer v x).fate
   where
     go : (f : Fate) → P (after_word f v c (offer v x).state).device
     go Held = held v

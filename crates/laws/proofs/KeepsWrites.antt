@@ -12,8 +12,7 @@ use Rattle.bits.specs.Bits.{field}
 use Rattle.registers.specs.Control.{enable}
 use Rattle.registers.specs.Map.{reserved_set, register_at}
 use Rattle.registers.specs.declared.Register.TheVariants.{Control, Status, RawStatus, InterruptEnable, MaskedStatus, InterruptClear, EmbeddedCode, EmbeddedUnmask, WindowStart, WindowSize}
-use Rattle.registers.specs.declared.Found.{Found}
-use Rattle.registers.specs.declared.Found.TheVariants.{At, Nothing}
+use Rattle.std.specs.Prelude.{Option, Some, None}
 use Rattle.rules.specs.declared.Capture.{Capture}
 use Rattle.rules.specs.declared.Device.{Device}
 use Rattle.rules.specs.State.{with_cr, with_ris, with_ier, with_cwstrt, with_cwsize, with_escr, with_esur, with_registers, device, capture_of, output_of}
@@ -27,6 +26,7 @@ use Rattle.rules.proofs.WellFormed.{CaptureOk, WellFormed, facts, well_formed}
 use Rattle.laws.proofs.RegisterValues.{allowed, not_excluded}
 use Rattle.laws.proofs.CaptureParts.{registers_ok}
 use Rattle.refusals.proofs.Accepted.{accepted}
+use Rattle.registers.specs.declared.Register.{Register}
 use Rattle.laws.proofs.WriteControl.{write_control_ok}
 
 -- The capture state after a write that leaves CR.
@@ -70,7 +70,7 @@ capture_ok s d same c w = record { capture = c; output = enabling_ok w.output (�
 
 -- CR written, and the held words discarded where ENABLE falls.
 control_ok : (d : Device) (v : ℕ) → CaptureOk d.core.output.counts.samples (write_control v (capture_of d)) → WellFormed d
-    → WellFormed (write_at d (At Control) v)
+    → WellFormed (write_at d (Some Control) v)
 unfolding write_at write_register write_control discard holding with_held count_discarded with_counts with_registers with_cr
 control_ok d v c w =
     let q = w.output in
@@ -78,20 +78,20 @@ control_ok d v c w =
     (λ falls. record { capture = c; output = discard_ok q 0 d.core.output q.depth q.completed q.place (omega (arith, q.equation)) })
     (λ stays. record { capture = c; output = enabling_ok q (λ off. and_false_left _ _ stays (not_is_true (enable v) off)) })
 
-write_at_ok : (d : Device) (r : Found) (v : ℕ) → v < 2 ^ 32 → reserved_at r v ≡ false → unsupported_at r v ≡ false
+write_at_ok : (d : Device) (r : Option Register) (v : ℕ) → v < 2 ^ 32 → reserved_at r v ≡ false → unsupported_at r v ≡ false
     → fixed_at d.core.capture.registers.cr r v ≡ false → WellFormed d → WellFormed (write_at d r v)
 unfolding write_at write_register with_ier with_cwstrt with_cwsize with_escr with_esur clear_flags with_ris with_registers
-write_at_ok d Nothing v small a b c w = w
-write_at_ok d (At Control) v small a b c w = control_ok d v (write_control_ok v a b d.core.capture w.capture c) w
-write_at_ok d (At Status) v small a b c w = w
-write_at_ok d (At RawStatus) v small a b c w = w
-write_at_ok d (At InterruptEnable) v small a b c w = capture_ok _ d refl (write_enable_ok v d.core.capture w.capture small a) w
-write_at_ok d (At MaskedStatus) v small a b c w = w
-write_at_ok d (At InterruptClear) v small a b c w = capture_ok _ d refl (write_clear_ok v d.core.capture w.capture) w
-write_at_ok d (At EmbeddedCode) v small a b c w = capture_ok _ d refl (write_code_ok v d.core.capture w.capture) w
-write_at_ok d (At EmbeddedUnmask) v small a b c w = capture_ok _ d refl (write_unmask_ok v d.core.capture w.capture) w
-write_at_ok d (At WindowStart) v small a b c w = capture_ok _ d refl (write_start_ok v d.core.capture w.capture a) w
-write_at_ok d (At WindowSize) v small a b c w = capture_ok _ d refl (write_size_ok v d.core.capture w.capture a) w
+write_at_ok d None v small a b c w = w
+write_at_ok d (Some Control) v small a b c w = control_ok d v (write_control_ok v a b d.core.capture w.capture c) w
+write_at_ok d (Some Status) v small a b c w = w
+write_at_ok d (Some RawStatus) v small a b c w = w
+write_at_ok d (Some InterruptEnable) v small a b c w = capture_ok _ d refl (write_enable_ok v d.core.capture w.capture small a) w
+write_at_ok d (Some MaskedStatus) v small a b c w = w
+write_at_ok d (Some InterruptClear) v small a b c w = capture_ok _ d refl (write_clear_ok v d.core.capture w.capture) w
+write_at_ok d (Some EmbeddedCode) v small a b c w = capture_ok _ d refl (write_code_ok v d.core.capture w.capture) w
+write_at_ok d (Some EmbeddedUnmask) v small a b c w = capture_ok _ d refl (write_unmask_ok v d.core.capture w.capture) w
+write_at_ok d (Some WindowStart) v small a b c w = capture_ok _ d refl (write_start_ok v d.core.capture w.capture a) w
+write_at_ok d (Some WindowSize) v small a b c w = capture_ok _ d refl (write_size_ok v d.core.capture w.capture a) w
 
 accepted_ok : (d : Device) (offset v : ℕ) → v < 2 ^ 32 → write_refusal d offset v ≡ 0 → WellFormed d → WellFormed (write_at d (register_at offset) v)
 unfolding write_refusal

@@ -3,7 +3,7 @@
 -- The idea: calls before the cut stay, a run is cut to the samples before it, and of another call there is nothing before its event. Assumes nothing.
 use mathlib.Core.Bool.{false, not, ◌&&◌}
 use mathlib.Core.List.{List, [], ◌∷◌, ◌++◌, tail, append-nil}
-use mathlib.Core.Option.{Option}
+use Rattle.std.specs.Prelude.{Option}
 use mathlib.Core.Path.{◌≡◌, refl, sym, ap, subst, ◌∙◌}
 use Prim.Native.Nat.{ℕ, ◌+◌, ◌≤◌}
 use native.Mathlib.Omega.{arith}
@@ -16,7 +16,7 @@ use Rattle.samples.specs.Samples.{bad_sample, any_bad}
 use Rattle.run_refusals.proofs.Passed.{passed}
 use Rattle.rules.specs.declared.Capture.{Capture}
 use Rattle.rules.specs.declared.Device.{Device}
-use Rattle.output.specs.Output.{Packed}
+use Rattle.output.specs.declared.Packing.{Packing as Packed}
 use Rattle.rules.specs.Run.{step, steps, run_refusal, run, sample}
 use Rattle.rules.specs.WellFormed.{malformed}
 use Rattle.laws.specs.Histories.{Call, a_write, a_rearming, a_placing, a_run, a_sample, after, after_all, Event, sampled, disabled, samplings, accepted_samplings, samplings_of, disabling_of, events, events_of_all}

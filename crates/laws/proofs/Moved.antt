@@ -2,7 +2,7 @@
 -- CAPTURE, OVR, ERR and the pins stay, and at most one datum is packed. The idea: rules 3 to 5 pack none (`Kept`), and rules 6 to 8 leave the registers. FRAME, where it is due after the
 -- sample, changes none of this. Assumes nothing.
 use mathlib.Core.Bool.{Bool, true, false, cond, ◌&&◌}
-use mathlib.Core.Option.{Option, none, some}
+use Rattle.std.specs.Prelude.{Option, None, Some}
 use mathlib.Core.Path.{◌≡◌, refl, ◌∙◌}
 use Prim.Native.Nat.{ℕ, ◌+◌, ◌/◌, ◌≤◌}
 use native.Mathlib.Omega.{arith}
@@ -29,8 +29,8 @@ use Rattle.laws.proofs.Kept.{Kept, kept, sync_flags_kept, frame_start_kept, earl
 
 -- Without a word something counted grows by at most 1; a word comes when it would reach q, and leaves it at 0.
 abbrev pub Paced : ℕ → ℕ → ℕ → Option ℕ → Type 0
-Paced q before after none = after ≤ before + 1
-Paced q before after (some v) = (q ≤ before + 1) × (after ≡ 0)
+Paced q before after None = after ≤ before + 1
+Paced q before after (Some v) = (q ≤ before + 1) × (after ≡ 0)
 
 -- The working edges that a word takes at least: one for each datum; with JPEG two, that of a datum and the frame's end (W4).
 unfoldable pub edges : ℕ → ℕ
@@ -54,8 +54,8 @@ pub record Moved (s : Capture) (c : Captured) : Type 0 where
 
 -- After rules that keep: the same of the state before them.
 same_pace : (q p p' a : ℕ) (o : Option ℕ) → p' ≤ p → Paced q p' a o → Paced q p a o
-same_pace q p p' a none le h = omega arith
-same_pace q p p' a (some v) le h = (omega arith, h.1)
+same_pace q p p' a None le h = omega arith
+same_pace q p p' a (Some v) le h = (omega arith, h.1)
 
 after : {s t : Capture} {c : Captured} → Kept s t → Moved t c → Moved s c
 after {s} {t} {c} k m =
@@ -135,8 +135,8 @@ pixel_in_moved (Open taken f) s now x in_f = either (Moved s) (any_blanks now) (
 
 -- W4: a frame's end pads a word with JPEG and a datum at least, and leaves none; VSYNC blanks.
 abbrev Padding : Capture → Capture → Bool → Option ℕ → Type 0
-Padding s t vsync none = Unit {0}
-Padding s t vsync (some v) = (jpeg s.registers.cr ≡ true) × (1 ≤ s.partial.count) × (t.partial.count ≡ 0) × (vsync ≡ true)
+Padding s t vsync None = Unit {0}
+Padding s t vsync (Some v) = (jpeg s.registers.cr ≡ true) × (1 ≤ s.partial.count) × (t.partial.count ≡ 0) × (vsync ≡ true)
 
 padded_padding : (f : Frame) (s : Capture) → Padding s (end_of f s) true (padded f s)
 unfolding padded end_of close_frame with_partial with_frame
@@ -154,7 +154,7 @@ frame_pads_padding : (s : Capture) (now : Syncs) → Padding s (frame_closes s n
 unfolding frame_closes frame_pads
 frame_pads_padding s now = go now.vsync
   where
-    go : (vsync : Bool) → Padding s (cond vsync (end_of s.frame s) s) vsync (cond vsync (padded s.frame s) none)
+    go : (vsync : Bool) → Padding s (cond vsync (end_of s.frame s) s) vsync (cond vsync (padded s.frame s) None)
     go true = padded_padding s.frame s
     go false = tt
 
@@ -170,8 +170,8 @@ edge_paced : (s : Capture) (now : Syncs) (x : ℕ) → (o : Option ℕ) → Padd
     let p = pixel_in u.frame u now x in Moved s p
     → Paced (edges s.registers.cr) s.partial.count p.state.partial.count (either_word o p.word)
 unfolding either_word no_word edges
-edge_paced s now x none h m = m.paced
-edge_paced s now x (some v) h m =
+edge_paced s now x None h m = m.paced
+edge_paced s now x (Some v) h m =
     let t = sync_flags s now in
     let k = sync_flags_kept s now in
     let u = frame_start (frame_closes t now) now in

@@ -10,8 +10,7 @@ use Rattle.bits.proofs.Booleans.{either}
 use Rattle.registers.specs.Control.{enable}
 use Rattle.registers.specs.Map.{register_at}
 use Rattle.registers.specs.declared.Register.TheVariants.{Control, Status, RawStatus, InterruptEnable, MaskedStatus, InterruptClear, EmbeddedCode, EmbeddedUnmask, WindowStart, WindowSize}
-use Rattle.registers.specs.declared.Found.{Found}
-use Rattle.registers.specs.declared.Found.TheVariants.{At, Nothing}
+use Rattle.std.specs.Prelude.{Option, Some, None}
 use Rattle.refusals.specs.Refusals.{◌⇒◌, first}
 use Rattle.samples.specs.Samples.{pixel_data}
 use Rattle.codes.specs.declared.Waiting.TheVariants.{Zero}
@@ -36,6 +35,7 @@ use Rattle.laws.proofs.KeepsSample.{by_word}
 use Rattle.laws.proofs.Conservation.{calls_keep}
 use Rattle.laws.proofs.FrameEdges.{blanks, at_edge_closed}
 use Rattle.laws.proofs.FrameCodes.{each_same}
+use Rattle.registers.specs.declared.Register.{Register}
 use Rattle.laws.proofs.ByCode.{by_code, by_sample}
 
 -- Whatever the frame, where VSYNC does not blank; whatever it is, where no frame is open.
@@ -136,19 +136,19 @@ control_runs v s runs =
     let same = either P (enable s.registers.cr) (either P (enable v) runs tt) (either P (enable v) tt runs) in
     either P (capture_rises v s) same same
 
-write_at_runs : (d : Device) (r : Found) (v : ℕ) → Runs d.core.capture → Runs (write_at d r v).core.capture
+write_at_runs : (d : Device) (r : Option Register) (v : ℕ) → Runs d.core.capture → Runs (write_at d r v).core.capture
 unfolding write_at write_register with_registers with_ier clear_flags with_ris with_cwstrt with_cwsize with_escr with_esur
-write_at_runs d Nothing v runs = runs
-write_at_runs d (At Control) v runs = control_runs v d.core.capture runs
-write_at_runs d (At Status) v runs = runs
-write_at_runs d (At RawStatus) v runs = runs
-write_at_runs d (At InterruptEnable) v runs = runs
-write_at_runs d (At MaskedStatus) v runs = runs
-write_at_runs d (At InterruptClear) v runs = runs
-write_at_runs d (At EmbeddedCode) v runs = runs
-write_at_runs d (At EmbeddedUnmask) v runs = runs
-write_at_runs d (At WindowStart) v runs = runs
-write_at_runs d (At WindowSize) v runs = runs
+write_at_runs d None v runs = runs
+write_at_runs d (Some Control) v runs = control_runs v d.core.capture runs
+write_at_runs d (Some Status) v runs = runs
+write_at_runs d (Some RawStatus) v runs = runs
+write_at_runs d (Some InterruptEnable) v runs = runs
+write_at_runs d (Some MaskedStatus) v runs = runs
+write_at_runs d (Some InterruptClear) v runs = runs
+write_at_runs d (Some EmbeddedCode) v runs = runs
+write_at_runs d (Some EmbeddedUnmask) v runs = runs
+write_at_runs d (Some WindowStart) v runs = runs
+write_at_runs d (Some WindowSize) v runs = runs
 
 -- Every call, and every list of calls.
 call_runs : (d : Device) (c : Call) → Runs d.core.capture → Runs (after d c).core.capture

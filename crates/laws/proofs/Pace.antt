@@ -3,7 +3,7 @@
 -- The idea: a byte that is not the last of a code either waits or is released, so that data and waiting bytes together grow by 1; a word takes four. Assumes nothing.
 use mathlib.Core.Bool.{Bool, true, false, cond, ◌&&◌, true≢false}
 use mathlib.Core.List.{List, [], ◌∷◌}
-use mathlib.Core.Option.{Option, none, some}
+use Rattle.std.specs.Prelude.{Option, None, Some}
 use mathlib.Core.Path.{◌≡◌, refl, ◌∙◌}
 use Prim.Native.Nat.{ℕ, ◌+◌, ◌-◌, ◌*◌, ◌≤◌, ◌<◌}
 use native.Mathlib.Omega.{arith}
@@ -41,7 +41,7 @@ few_wait Three e = absurd (true≢false e)
 
 -- A code answers no word, packs none, and leaves the waiting bytes.
 record Quiet (s : Capture) (c : Captured) : Type 0 where
-  word : c.word ≡ none
+  word : c.word ≡ None
   waiting : c.state.waiting ≡ s.waiting
   fewer : c.state.partial.count ≤ s.partial.count
 
@@ -84,7 +84,7 @@ at_code_quiet : (m : Meaning) (s : Capture) → Quiet s (at_code m s)
 unfolding no_word line_opens with_syncs with_frame
 at_code_quiet m s = let same : Quiet s (no_word s) = none_quiet s in by_code (Quiet s) s same (closes_quiet s) (errs_quiet s) (λ e. opens_quiet s) (λ taken f e. record { word = refl; waiting = refl; fewer = omega arith }) (λ e. record { word = refl; waiting = refl; fewer = omega arith }) m
 
-pub at_code_word : (m : Meaning) (s : Capture) → (at_code m s).word ≡ none
+pub at_code_word : (m : Meaning) (s : Capture) → (at_code m s).word ≡ None
 at_code_word m s = (at_code_quiet m s).word
 
 pub at_code_waits : (m : Meaning) (s : Capture) → (at_code m s).state.waiting ≡ s.waiting
@@ -108,8 +108,8 @@ code_paced m s t none_waits same =
 
 -- Data and waiting bytes by the numbers: many data are released, v bytes waited and v' do now.
 released_paced : (many p p' v v' : ℕ) (o : Option ℕ) → many + v' ≡ v + 1 → v ≤ 2 → Grown 4 many p p' o → Paced 2 (p + v - 2) (p' + v' - 2) o
-released_paced many p p' v v' none e few g = omega arith
-released_paced many p p' v v' (some w) e few (reached, left) = (omega arith, omega arith)
+released_paced many p p' v v' None e few g = omega arith
+released_paced many p p' v v' (Some w) e few (reached, left) = (omega arith, omega arith)
 
 byte_in_paced : (f : Frame) (s : Capture) (x : ℕ) → eqb (edm s.registers.cr) 0 ≡ true → is_code s.waiting ≡ false
     → Paced 2 (pace s) (pace (byte_in f s x).state) (byte_in f s x).word

@@ -1,7 +1,7 @@
 -- What a sample makes of the capture state: a well-formed one stays so, with one more allowed in the bound on lines and pixels; CR stays but for CAPTURE, OVR and the pins
 -- stay, and ERR does unless it is said to rise (`Left`). FRAME, where it is due after the sample, changes none of this. Assumes nothing.
 use mathlib.Core.Bool.{true, ◌&&◌}
-use mathlib.Core.Option.{some}
+use Rattle.std.specs.Prelude.{Some}
 use mathlib.Core.Path.{◌≡◌, ◌∙◌}
 use Prim.Native.Nat.{ℕ, ◌+◌, ◌/◌}
 use native.Mathlib.Omega.{arith}
@@ -51,9 +51,9 @@ pub next_enable : (s : Capture) (w : ℕ) → enable (next_capture s w).register
 next_enable s w = half_enable _ _ (next_half s w)
 
 -- A word is completed with ENABLE 1 only.
-pub word_enabled : (s : Capture) (w v : ℕ) → (capture_sample s w).word ≡ some v → enable s.registers.cr ≡ true
+pub word_enabled : (s : Capture) (w v : ℕ) → (capture_sample s w).word ≡ Some v → enable s.registers.cr ≡ true
 unfolding capture_sample no_word
 word_enabled s w v =
-    by_cond (λ (c : Captured). c.word ≡ some v → enable s.registers.cr ≡ true) (working_edge s w && enabled s) _ _
+    by_cond (λ (c : Captured). c.word ≡ Some v → enable s.registers.cr ≡ true) (working_edge s w && enabled s) _ _
     (λ t is. (and_true (working_edge s w) (enabled s) t).1)
     (λ t is. let z : ◌≡◌ {A = ℕ} 0 1 = cc in absurd (omega arith))

@@ -3,7 +3,7 @@
 -- The idea: without an open frame a byte brings no pixel, and a code is only sought. Assumes nothing.
 use mathlib.Core.Bool.{Bool, true, false, cond, not, ◌&&◌, true≢false}
 use mathlib.Core.List.{List, [], ◌∷◌}
-use mathlib.Core.Option.{Option, none, some}
+use Rattle.std.specs.Prelude.{Option, None, Some}
 use mathlib.Core.Path.{◌≡◌, refl, sym, ap, subst, ◌∙◌}
 use Prim.Native.Nat.{ℕ}
 use native.Mathlib.Omega.{arith}
@@ -13,7 +13,8 @@ use Rattle.registers.specs.Control.{capture, snapshot, embedded, enable}
 use Rattle.samples.specs.Samples.{bus_grant}
 use Rattle.output.specs.declared.Fate.{Fate}
 use Rattle.output.specs.declared.Fate.TheVariants.{Held, Lost}
-use Rattle.output.specs.Output.{OutputState, with_held, holding, with_counts, count_sample, count_discarded, grant, offer, discard, nothing, lost, counted}
+use Rattle.output.specs.Output.{OutputState, with_held, holding, with_counts, count_sample, count_discarded, grant, offer, discard, counted}
+use Rattle.output.specs.declared.Packing.TheVariants.{Nothing as nothing, Lost as lost}
 use Rattle.output.proofs.Untouched.{Untouched, grant_untouched}
 use Rattle.codes.specs.declared.Waiting.TheVariants.{Zero}
 use Rattle.codes.specs.declared.Meaning.{Meaning}
@@ -73,7 +74,7 @@ searches s e =
 -- What a byte or a sample makes of it.
 record Searched (s : Capture) (found : Bool) (c : Captured) : Type 0 where
   registers : c.state.registers ≡ s.registers
-  word : c.word ≡ none
+  word : c.word ≡ None
   due : c.due ≡ false
   error : c.error ≡ false
   on : found ≡ false → seeks c.state ≡ true
@@ -124,11 +125,11 @@ sample_searched s w coded seeking = rw coded (go (working_edge s w && enabled s)
     go false = record { registers = refl; word = refl; due = refl; error = refl; on = λ e. seeking }
 
 -- The whole sample, without a word.
-quiet_complete : (o : Option ℕ) (c : Captured) (x : OutputState) → o ≡ none → c.due ≡ false
+quiet_complete : (o : Option ℕ) (c : Captured) (x : OutputState) → o ≡ None → c.due ≡ false
     → let r = complete o c x in (r.device.core.capture ≡ c.state) × (r.packed ≡ nothing) × (output_of r.device ≡ cond c.error (discard 0 x) x)
 unfolding complete flagged
-quiet_complete none c x e quiet = (rw quiet, refl, refl)
-quiet_complete (some v) c x e quiet = let z : ◌≡◌ {A = ℕ} 0 1 = cc in absurd (omega arith)
+quiet_complete None c x e quiet = (rw quiet, refl, refl)
+quiet_complete (Some v) c x e quiet = let z : ◌≡◌ {A = ℕ} 0 1 = cc in absurd (omega arith)
 
 module _ (d : Device) (b : List ℕ) (w : ℕ) (coded : embedded d.core.capture.registers.cr ≡ true) (seeking : seeks d.core.capture ≡ true) where
   step_searched : Searched d.core.capture (found_at d.core.capture w) (no_word (step d b w).device.core.capture) × ((step d b w).packed ≡ nothing)
@@ -189,27 +190,27 @@ error_seeks d b w rises =
     record { frame = rw same f.frame; partial = rw same f.partial; held = emptied; seeks = rw same f.seeking }
 
 -- An overrun by data that a byte releases.
-word_runs : (f : Frame) (s : Capture) (x v : ℕ) → RunsIn f s.syncs.vsync → (byte_in f s x).word ≡ some v → (byte_in f s x).state.syncs.vsync ≡ false
+word_runs : (f : Frame) (s : Capture) (x v : ℕ) → RunsIn f s.syncs.vsync → (byte_in f s x).word ≡ Some v → (byte_in f s x).state.syncs.vsync ≡ false
 unfolding byte_in no_word with_waiting with_frame
 word_runs Closed s x v runs = λ is. let z : ◌≡◌ {A = ℕ} 0 1 = cc in absurd (omega arith)
 word_runs (Open taken f) s x v runs =
     let still = waiting_after s.waiting x in
-    either (λ (c : Captured). c.word ≡ some v → c.state.syncs.vsync ≡ false) s.syncs.hsync
+    either (λ (c : Captured). c.word ≡ Some v → c.state.syncs.vsync ≡ false) s.syncs.hsync
     (λ is. let z : ◌≡◌ {A = ℕ} 0 1 = cc in absurd (omega arith))
     (λ is. ap (λ (y : Syncs). y.vsync) (each_same _ taken (arrived f) (released s.waiting x) (waiting_count still)).syncs ∙ runs)
 
-byte_runs : (s : Capture) (x v : ℕ) → Runs s → (at_byte s x).word ≡ some v → (at_byte s x).state.syncs.vsync ≡ false
+byte_runs : (s : Capture) (x v : ℕ) → Runs s → (at_byte s x).word ≡ Some v → (at_byte s x).state.syncs.vsync ≡ false
 unfolding at_byte
 byte_runs s x v runs =
-    either (λ (c : Captured). c.word ≡ some v → c.state.syncs.vsync ≡ false) (is_code s.waiting)
+    either (λ (c : Captured). c.word ≡ Some v → c.state.syncs.vsync ≡ false) (is_code s.waiting)
     (λ is. let e = at_code_word (meaning s.registers.escr s.registers.esur x) (with_waiting Zero (taken_out s.frame s)) in let z : ◌≡◌ {A = ℕ} 0 1 = cc in absurd (omega arith))
     (word_runs s.frame s x v runs)
 
-sample_runs : (s : Capture) (w v : ℕ) → embedded s.registers.cr ≡ true → Runs s → (capture_sample s w).word ≡ some v → (capture_sample s w).state.syncs.vsync ≡ false
+sample_runs : (s : Capture) (w v : ℕ) → embedded s.registers.cr ≡ true → Runs s → (capture_sample s w).word ≡ Some v → (capture_sample s w).state.syncs.vsync ≡ false
 unfolding capture_sample edge remember_pins no_word with_pins
 sample_runs s w v coded runs =
     rw coded
-    (either (λ (c : Captured). c.word ≡ some v → c.state.syncs.vsync ≡ false) (working_edge s w && enabled s)
+    (either (λ (c : Captured). c.word ≡ Some v → c.state.syncs.vsync ≡ false) (working_edge s w && enabled s)
     (byte_runs (remember_pins w s) (byte_of w) v runs)
     (λ is. let z : ◌≡◌ {A = ℕ} 0 1 = cc in absurd (omega arith)))
 
@@ -217,10 +218,10 @@ lost_frame : (s : Capture) → s.syncs.vsync ≡ false → ((lose_frame s).frame
 unfolding lose_frame close_frame with_partial with_frame clear_capture raise with_registers with_cr with_ris seeks
 lost_frame s runs = (refl, refl, either (λ (t : Capture). not t.syncs.vsync ≡ true) (snapshot s.registers.cr) (rw runs) (rw runs))
 
-complete_lost : (o : Option ℕ) (c : Captured) (x : OutputState) → ((v : ℕ) → o ≡ some v → c.state.syncs.vsync ≡ false) → (complete o c x).packed ≡ lost → Emptied (complete o c x).device
+complete_lost : (o : Option ℕ) (c : Captured) (x : OutputState) → ((v : ℕ) → o ≡ Some v → c.state.syncs.vsync ≡ false) → (complete o c x).packed ≡ lost → Emptied (complete o c x).device
 unfolding complete after_word discard holding with_held
-complete_lost none c x runs = λ is. let z : ◌≡◌ {A = ℕ} 0 1 = cc in absurd (omega arith)
-complete_lost (some v) c x runs = go (offer v x).fate (offer v x).state
+complete_lost None c x runs = λ is. let z : ◌≡◌ {A = ℕ} 0 1 = cc in absurd (omega arith)
+complete_lost (Some v) c x runs = go (offer v x).fate (offer v x).state
   where
     go : (f : Fate) (y : OutputState) → (after_word f v c y).packed ≡ lost → Emptied (after_word f v c y).device
     go Held y is = let z : ◌≡◌ {A = ℕ} 0 1 = cc in absurd (omega arith)

@@ -3,7 +3,7 @@
 -- Assumes nothing.
 use mathlib.Core.Bool.{Bool, true, false, cond, not, ◌&&◌}
 use mathlib.Core.List.{List, [], ◌∷◌, map}
-use mathlib.Core.Option.{Option, none, some}
+use Rattle.std.specs.Prelude.{Option, None, Some}
 use mathlib.Core.Path.{◌≡◌, refl, sym, ap, ◌∙◌}
 use Prim.Native.Nat.{ℕ, ◌+◌, ◌%◌}
 use lib.Dec.{ltb}
@@ -84,7 +84,7 @@ module _ (p : Pins) where
       let flags : cond (capture s.registers.cr) (sync_flags (with_pins p u) now) (with_pins p u) ≡ with_pins p (cond (capture s.registers.cr) (sync_flags u now) u) =
       chosen_state p (capture s.registers.cr) (sync_flags u now) _ u _ (sync_flags_pins u now) refl in
       let closed = ap (λ t. frame_closes t now) flags ∙ frame_closes_pins _ now in
-      λ i. record { state = with_syncs now (closed i); word = none; due = due_pins s.frame u now i; error = false }
+      λ i. record { state = with_syncs now (closed i); word = None; due = due_pins s.frame u now i; error = false }
 
   errs_pins : (s : Capture) → errs (with_pins p s) ≡ repinned p (errs s)
   unfolding errs raise close_frame with_frame with_partial with_syncs with_registers with_ris with_pins
@@ -125,7 +125,7 @@ module _ (p : Pins) where
   unfolding datum captured in_window pack packed_bits no_word with_partial with_pins
   datum_pins s taken f x =
       chosen p (captured s taken f) (pack s x) _ (no_word s) _
-      (chosen p (ltb (s.partial.count + 1) (per_word (edm s.registers.cr))) (no_word _) _ (record { state = _; word = some (packed_bits s x); due = false; error = false }) _ refl refl)
+      (chosen p (ltb (s.partial.count + 1) (per_word (edm s.registers.cr))) (no_word _) _ (record { state = _; word = Some (packed_bits s x); due = false; error = false }) _ refl refl)
       refl
 
   each_pins : (s : Capture) (taken : Bool) (f : Scan) (xs : List ℕ) (still : ℕ) → each_datum (with_pins p s) taken f xs still ≡ repinned p (each_datum s taken f xs still)
@@ -177,8 +177,8 @@ module _ (p : Pins) where
 
   complete_pins : (o : Option ℕ) (c : Captured) (x : OutputState) → complete o (repinned p c) x ≡ completed_pins (complete o c x)
   unfolding complete completed_pins
-  complete_pins none c x = rw (flagged_pins c)
-  complete_pins (some v) c x = after_word_pins (offer v x).fate v c (offer v x).state
+  complete_pins None c x = rw (flagged_pins c)
+  complete_pins (Some v) c x = after_word_pins (offer v x).fate v c (offer v x).state
 
 -- A sample with ESS 1, by its data, clock and grant alone, of a state whose levels are taken as 0: what is left of it without its own levels.
 by_byte : Capture → ℕ → Bool → Captured

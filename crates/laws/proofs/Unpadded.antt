@@ -2,7 +2,7 @@
 -- (`sample_padded`), and that none waits after it. Assumes nothing.
 use mathlib.Core.Bool.{Bool, true, false, cond, not, ◌&&◌, beq, false≢true}
 use mathlib.Core.List.{List}
-use mathlib.Core.Option.{Option, none, some}
+use Rattle.std.specs.Prelude.{Option, None, Some}
 use mathlib.Core.Path.{◌≡◌, refl, ap, ◌∙◌}
 use Prim.Native.Nat.{ℕ}
 use native.Mathlib.Omega.{arith}
@@ -32,7 +32,7 @@ raise_padded k (Open taken f) s = refl
 
 raise_pads : (k : ℕ) (s : Capture) (at : Syncs) → frame_pads (raise k s) at ≡ frame_pads s at
 unfolding frame_pads raise with_registers with_ris
-raise_pads k s at = ap (λ (o : Option ℕ). cond at.vsync o none) (raise_padded k s.frame s)
+raise_pads k s at = ap (λ (o : Option ℕ). cond at.vsync o None) (raise_padded k s.frame s)
 
 flags_pad : (s : Capture) (now at : Syncs) → frame_pads (sync_flags s now) at ≡ frame_pads s at
 unfolding sync_flags line_flag vsync_flag
@@ -48,38 +48,38 @@ seen_padded w (Open taken f) s = refl
 
 seen_pads : (w : ℕ) (s : Capture) (at : Syncs) → frame_pads (remember_pins w s) at ≡ frame_pads s at
 unfolding frame_pads remember_pins with_pins
-seen_pads w s at = ap (λ (o : Option ℕ). cond at.vsync o none) (seen_padded w s.frame s)
+seen_pads w s at = ap (λ (o : Option ℕ). cond at.vsync o None) (seen_padded w s.frame s)
 
 pub pads_seen : (s : Capture) (w : ℕ) (now : Syncs) → frame_pads (sync_flags (remember_pins w s) now) now ≡ frame_pads s now
 pads_seen s w now = flags_pad (remember_pins w s) now now ∙ seen_pads w s now
 
 -- Where none is padded at a frame's end.
-none_padded : (s : Capture) (w : ℕ) → padded s.frame s ≡ none → padded_at s w ≡ none
+none_padded : (s : Capture) (w : ℕ) → padded s.frame s ≡ None → padded_at s w ≡ None
 unfolding padded_at frame_pads
 none_padded s w e =
-    rw e (either (λ (o : Option ℕ). o ≡ none) (working_edge s w && enabled s) (either (λ (o : Option ℕ). o ≡ none) (blanking s w).vsync refl refl) refl)
+    rw e (either (λ (o : Option ℕ). o ≡ None) (working_edge s w && enabled s) (either (λ (o : Option ℕ). o ≡ None) (blanking s w).vsync refl refl) refl)
 
 -- Without JPEG.
-unpadded : (f : Frame) (s : Capture) → jpeg s.registers.cr ≡ false → padded f s ≡ none
+unpadded : (f : Frame) (s : Capture) → jpeg s.registers.cr ≡ false → padded f s ≡ None
 unfolding padded
 unpadded Closed s e = refl
 unpadded (Open taken f) s e = rw (e, and_zero taken)
 
-pub none_without_jpeg : (s : Capture) (w : ℕ) → jpeg s.registers.cr ≡ false → padded_at s w ≡ none
+pub none_without_jpeg : (s : Capture) (w : ℕ) → jpeg s.registers.cr ≡ false → padded_at s w ≡ None
 none_without_jpeg s w e = none_padded s w (unpadded s.frame s e)
 
 -- Where VSYNC does not blank.
-pub none_unless_vsync : (s : Capture) (w : ℕ) → beq (vsync_pin w) (vspol s.registers.cr) ≡ false → padded_at s w ≡ none
+pub none_unless_vsync : (s : Capture) (w : ℕ) → beq (vsync_pin w) (vspol s.registers.cr) ≡ false → padded_at s w ≡ None
 unfolding padded_at frame_pads blanking
-none_unless_vsync s w e = rw e (either (λ (o : Option ℕ). o ≡ none) (working_edge s w && enabled s) refl refl)
+none_unless_vsync s w e = rw e (either (λ (o : Option ℕ). o ≡ None) (working_edge s w && enabled s) refl refl)
 
 -- Where no datum waits: and where VSYNC blanks as well none waits after the sample.
-no_data : (f : Frame) (s : Capture) → s.partial.count ≡ 0 → padded f s ≡ none
+no_data : (f : Frame) (s : Capture) → s.partial.count ≡ 0 → padded f s ≡ None
 unfolding padded
 no_data Closed s e = refl
 no_data (Open taken f) s e = rw (e, and_zero (taken && jpeg s.registers.cr))
 
-pub none_without_data : (s : Capture) (w : ℕ) → s.partial.count ≡ 0 → padded_at s w ≡ none
+pub none_without_data : (s : Capture) (w : ℕ) → s.partial.count ≡ 0 → padded_at s w ≡ None
 none_without_data s w e = none_padded s w (no_data s.frame s e)
 
 edge_without_data : (s : Capture) (now : Syncs) (x : ℕ) → now.vsync ≡ true → s.partial.count ≡ 0 → (at_edge s now x).state.partial.count ≡ 0
@@ -116,7 +116,7 @@ flags_cr s now =
     let first = either (λ (u : Capture). u.registers.cr ≡ s.registers.cr) (not s.syncs.vsync && now.vsync) refl refl in
     either (λ (u : Capture). u.registers.cr ≡ s.registers.cr) (not t.syncs.hsync && now.hsync) first first
 
-all_true : (taken compressed more : Bool) (bits v : ℕ) → cond (taken && compressed && more) (some bits) none ≡ some v → (taken ≡ true) × (compressed ≡ true)
+all_true : (taken compressed more : Bool) (bits v : ℕ) → cond (taken && compressed && more) (Some bits) None ≡ Some v → (taken ≡ true) × (compressed ≡ true)
 all_true true true more bits v e = (refl, refl)
 all_true true false more bits v e = let z : ◌≡◌ {A = ℕ} 0 1 = cc in absurd (omega arith)
 all_true false compressed more bits v e = let z : ◌≡◌ {A = ℕ} 0 1 = cc in absurd (omega arith)
@@ -125,7 +125,7 @@ uncropped : (compressed cropped : Bool) → compressed && cropped ≡ false → 
 uncropped true cropped e is = e
 uncropped false cropped e is = absurd (false≢true is)
 
-due_padded : (f : Frame) (s : Capture) (now : Syncs) (v : ℕ) → jpeg s.registers.cr && crop s.registers.cr ≡ false → now.vsync ≡ true → padded f s ≡ some v
+due_padded : (f : Frame) (s : Capture) (now : Syncs) (v : ℕ) → jpeg s.registers.cr && crop s.registers.cr ≡ false → now.vsync ≡ true → padded f s ≡ Some v
     → frame_due f s now ≡ true
 unfolding padded frame_due frame_rises
 due_padded Closed s now v alone blanks e = let z : ◌≡◌ {A = ℕ} 0 1 = cc in absurd (omega arith)
@@ -133,7 +133,7 @@ due_padded (Open taken f) s now v alone blanks e =
     let (taking, compressed) = all_true taken (jpeg s.registers.cr) (ltb 0 s.partial.count) _ v e in
     rw (taking, uncropped (jpeg s.registers.cr) (crop s.registers.cr) alone compressed, blanks)
 
-pads_at_vsync : (vsync : Bool) (o : Option ℕ) (v : ℕ) → cond vsync o none ≡ some v → (vsync ≡ true) × (o ≡ some v)
+pads_at_vsync : (vsync : Bool) (o : Option ℕ) (v : ℕ) → cond vsync o None ≡ Some v → (vsync ≡ true) × (o ≡ Some v)
 pads_at_vsync true o v e = (refl, e)
 pads_at_vsync false o v e = let z : ◌≡◌ {A = ℕ} 0 1 = cc in absurd (omega arith)
 
@@ -142,13 +142,13 @@ seen_alone : (s : Capture) (w : ℕ) → jpeg s.registers.cr && crop s.registers
 unfolding remember_pins with_pins
 seen_alone s w e = e
 
-frame_pads_by : (t : Capture) (now : Syncs) (v : ℕ) → frame_pads t now ≡ some v → cond now.vsync (padded t.frame t) none ≡ some v
+frame_pads_by : (t : Capture) (now : Syncs) (v : ℕ) → frame_pads t now ≡ Some v → cond now.vsync (padded t.frame t) None ≡ Some v
 unfolding frame_pads
 frame_pads_by t now v e = e
 
 edge_padded : (s : Capture) (now : Syncs) (x v : ℕ) → jpeg s.registers.cr && crop s.registers.cr ≡ false
-    → frame_pads (sync_flags s now) now ≡ some v
-    → at_edge s now x ≡ record { state = with_syncs now (frame_start (frame_closes (sync_flags s now) now) now); word = some v; due = true; error = false }
+    → frame_pads (sync_flags s now) now ≡ Some v
+    → at_edge s now x ≡ record { state = with_syncs now (frame_start (frame_closes (sync_flags s now) now) now); word = Some v; due = true; error = false }
 unfolding at_edge frame_end pixel_edge no_word either_word
 edge_padded s now x v alone pads =
     let t = sync_flags s now in
@@ -157,8 +157,8 @@ edge_padded s now x v alone pads =
     let some_blanks : any_blanks now ≡ true = rw blanks (or_true now.hsync) in
     rw (pads, no_pixel u.frame u now x some_blanks, due_padded t.frame t now v (rw (flags_cr s now) alone) blanks word)
 
-pub sample_padded : (s : Capture) (w v : ℕ) → embedded s.registers.cr ≡ false → jpeg s.registers.cr && crop s.registers.cr ≡ false → padded_at s w ≡ some v
-    → capture_sample s w ≡ (let now = blanking s w in record { state = with_syncs now (frame_start (frame_closes (sync_flags (remember_pins w s) now) now) now); word = some v; due = true; error = false })
+pub sample_padded : (s : Capture) (w v : ℕ) → embedded s.registers.cr ≡ false → jpeg s.registers.cr && crop s.registers.cr ≡ false → padded_at s w ≡ Some v
+    → capture_sample s w ≡ (let now = blanking s w in record { state = with_syncs now (frame_start (frame_closes (sync_flags (remember_pins w s) now) now) now); word = Some v; due = true; error = false })
 unfolding padded_at capture_sample edge
 sample_padded s w v plain alone e =
     let (goes_on, pads) = pads_at_vsync (working_edge s w && enabled s) (frame_pads s (blanking s w)) v e in

@@ -2,7 +2,7 @@
 -- The idea: where FRAME is due a sync blanks, so that there is no word at all and FRAME may as well rise before. Assumes nothing.
 use mathlib.Core.Bool.{Bool, true, false, cond, not, ◌&&◌, ◌||◌, false≢true}
 use mathlib.Core.List.{List}
-use mathlib.Core.Option.{none}
+use Rattle.std.specs.Prelude.{None}
 use mathlib.Core.Path.{◌≡◌, refl, ap, ◌∙◌}
 use Prim.Native.Nat.{ℕ, ◌+◌}
 use native.Mathlib.Omega.{arith}
@@ -75,7 +75,7 @@ start_raised (Open taken f) now s = refl
 abbrev now_and_then : Captured → OutputState → Completed
 now_and_then c y = complete c.word c y
 
-edge_unpadded : (due : Bool) (s : Capture) (now : Syncs) (x : ℕ) (y : OutputState) → frame_due s.frame s now ≡ due → frame_pads s now ≡ none
+edge_unpadded : (due : Bool) (s : Capture) (now : Syncs) (x : ℕ) (y : OutputState) → frame_due s.frame s now ≡ due → frame_pads s now ≡ None
     → let p = pixel_edge (frame_start (frame_closes s now) now) now x in
     let q = pixel_edge (frame_start (frame_closes (cond due (raise 0 s) s) now) now) now x in
     now_and_then (record { state = with_syncs now p.state; word = either_word (frame_pads s now) p.word; due = due; error = false }) y
@@ -92,7 +92,7 @@ edge_unpadded true s now x y is e =
     )
 
 -- A sample that pads no word, with ESS 0 (W6). Rule 3 leaves what is padded.
-sample_unpadded : (s : Capture) (w : ℕ) (y : OutputState) → embedded s.registers.cr ≡ false → padded_at s w ≡ none
+sample_unpadded : (s : Capture) (w : ℕ) (y : OutputState) → embedded s.registers.cr ≡ false → padded_at s w ≡ None
     → now_and_then (capture_sample s w) y ≡ now_and_then (unpadded_sample s w) y
 unfolding capture_sample edge unpadded_sample at_edge unpadded_edge frame_end unpadded_end padded_at
 sample_unpadded s w y plain e = rw plain (go (working_edge s w && enabled s) e)
@@ -100,13 +100,13 @@ sample_unpadded s w y plain e = rw plain (go (working_edge s w && enabled s) e)
     seen : Capture
     seen = remember_pins w s
 
-    go : (goes_on : Bool) → cond goes_on (frame_pads s (blanking s w)) none ≡ none
+    go : (goes_on : Bool) → cond goes_on (frame_pads s (blanking s w)) None ≡ None
         → now_and_then (cond goes_on (at_edge seen (blanking s w) (pixel_data w)) (no_word seen)) y
         ≡ now_and_then (cond goes_on (unpadded_edge seen (blanking s w) (pixel_data w)) (no_word seen)) y
     go true e = edge_unpadded _ (sync_flags seen (blanking s w)) (blanking s w) (pixel_data w) y refl (pads_seen s w (blanking s w) ∙ e)
     go false e = refl
 
-pub step_unpadded : (d : Device) (b : List ℕ) (w : ℕ) → embedded d.core.capture.registers.cr ≡ false → padded_at (capture_of d) w ≡ none
+pub step_unpadded : (d : Device) (b : List ℕ) (w : ℕ) → embedded d.core.capture.registers.cr ≡ false → padded_at (capture_of d) w ≡ None
     → let s = capture_of d in
     let g = grant (bus_grant w) (enabled s) (counted (output_of d)) b in
     let c = now_and_then (unpadded_sample s w) g.state in
@@ -121,7 +121,7 @@ step_unpadded d b w plain e =
 pub unpadded_end_kept : (s : Capture) (now : Syncs) → Kept s (unpadded_end s now)
 unfolding unpadded_end flagged
 unpadded_end_kept s now =
-    let c : Captured = record { state = s; word = none; due = frame_due s.frame s now; error = false } in
+    let c : Captured = record { state = s; word = None; due = frame_due s.frame s now; error = false } in
     then (flagged_kept c) (frame_closes_kept (flagged c) now)
 
 unpadded_edge_ok : {n : ℕ} (s : Capture) (now : Syncs) (x : ℕ) → CaptureOk n s → CaptureOk (n + 1) (unpadded_edge s now x).state

@@ -1,9 +1,9 @@
 -- Rules as they stood before a request, for the laws that say what it leaves as it was.
-use Rattle.std.specs.Prelude.{false, cond, ◌&&◌, List, [], ◌∷◌, ℕ}
-use Rattle.std.proofs.Math.Option.{Option, none, some}
+use Rattle.std.specs.Prelude.{false, cond, ◌&&◌, List, [], ◌∷◌, ℕ, Option, None, Some}
 use Rattle.registers.specs.Control.{snapshot}
 use Rattle.samples.specs.Samples.{pixel_data, bus_grant}
-use Rattle.output.specs.Output.{OutputState, grant, offer, nothing, counted}
+use Rattle.output.specs.Output.{OutputState, grant, offer, counted}
+use Rattle.output.specs.declared.Packing.TheVariants.{Nothing as nothing}
 use Rattle.rules.specs.declared.Syncs.{Syncs}
 use Rattle.rules.specs.declared.Frame.{Frame}
 use Rattle.rules.specs.declared.Frame.TheVariants.{Closed, Open}
@@ -45,8 +45,8 @@ capture_sample_before_W6 s w =
 
 -- Before W6, rule 9: ERR never rises, and where no full word came nothing is discarded.
 unfoldable pub complete_before_W6 : Option ℕ → Captured → OutputState → Completed
-complete_before_W6 none c x = record { device = device (flagged c) x; packed = nothing }
-complete_before_W6 (some v) c x = after_word (offer v x).fate v c (offer v x).state
+complete_before_W6 None c x = record { device = device (flagged c) x; packed = nothing }
+complete_before_W6 (Some v) c x = after_word (offer v x).fate v c (offer v x).state
 
 -- The nine rules with such rules 2 to 8, and with that rule 9.
 unfoldable pub step_by : (Capture → ℕ → Captured) → Device → List ℕ → ℕ → Stepped

@@ -15,7 +15,8 @@ use Rattle.rules.specs.Capture.{working_edge, enabled, blanking, frame_due, star
 use Rattle.rules.specs.State.{is_open}
 use Rattle.rules.specs.Codes.{in_line, seeks, line_ended, frame_ended}
 use Rattle.rules.specs.Sample.{byte_of}
-use Rattle.output.specs.Output.{Packed, nothing, completed, lost}
+use Rattle.output.specs.declared.Packing.{Packing as Packed}
+use Rattle.output.specs.declared.Packing.TheVariants.{Nothing as nothing, Completed as completed, Lost as lost}
 use Rattle.laws.specs.Histories.{Event, sampled, disabled}
 
 -- Since the frame started, HSYNC has blanked at a working edge after line VST + VLINE had begun, or with ESS 1 an end code has come after that (W6); and how often FRAME was

@@ -1,14 +1,13 @@
 -- Every list of calls on a device made with a depth (W9), in any order: register writes, re-arming, placings (W2), runs and single samples, each with whatever memory and
 -- start byte it is lent. A refused call changes nothing, so the list stands for its accepted calls. And the events of such a list, in order.
-use Rattle.std.specs.Prelude.{Bool, true, cond, not, ◌&&◌, List, [], ◌∷◌, ◌++◌, ℕ, ◌<◌, ◌^◌, eqb, ltb, drop}
-use Rattle.std.proofs.Math.Option.{Option}
+use Rattle.std.specs.Prelude.{Bool, true, cond, not, ◌&&◌, List, [], ◌∷◌, ◌++◌, ℕ, ◌<◌, ◌^◌, eqb, ltb, drop, Option}
 use Rattle.registers.specs.Control.{embedded, enable}
 use Rattle.rules.specs.declared.Capture.{Capture}
 use Rattle.rules.specs.declared.Device.{Device}
 use Rattle.rules.specs.State.{fresh_of}
 use Rattle.rules.specs.RegisterCalls.{write, placed, rearm}
 use Rattle.rules.specs.Sample.{capture_sample}
-use Rattle.output.specs.Output.{Packed}
+use Rattle.output.specs.declared.Packing.{Packing as Packed}
 use Rattle.rules.specs.Run.{step, run_refusal, run, sample}
 
 -- A call. The value of a write is a 32-bit number. A placing sets the place of the next word, to one not above landed: what two buffers do between samples (W2); re-arming sets 0.

@@ -1,6 +1,7 @@
 -- The counts, from the history (document 01, "Memory and counts"): the ledger of the crate `output`, kept by the events of a list of calls alone.
 use Rattle.std.specs.Prelude.{Bool, cond, List, [], ◌∷◌, ◌+◌}
-use Rattle.output.specs.Output.{Packed, nothing, completed, lost}
+use Rattle.output.specs.declared.Packing.{Packing as Packed}
+use Rattle.output.specs.declared.Packing.TheVariants.{Nothing as nothing, Completed as completed, Lost as lost}
 use Rattle.output.specs.Ledger.{Ledger, blank, sample_entry, landing_entry, discarding_entry}
 use Rattle.rules.specs.Sample.{capture_sample}
 use Rattle.laws.specs.Histories.{Event, sampled, disabled}

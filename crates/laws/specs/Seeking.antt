@@ -13,7 +13,7 @@ use Rattle.rules.specs.State.{no_partial, capture_of}
 use Rattle.rules.specs.Capture.{working_edge, enabled}
 use Rattle.rules.specs.Codes.{seeks}
 use Rattle.rules.specs.Sample.{byte_of}
-use Rattle.output.specs.Output.{nothing}
+use Rattle.output.specs.declared.Packing.TheVariants.{Nothing as nothing}
 use Rattle.rules.specs.Run.{step, steps}
 
 unfoldable pub counts : Meaning → ℕ → Bool

@@ -1,8 +1,8 @@
 -- A number of n bytes from a byte on: its first byte and 256 times the number of those after it, a byte beyond the end reading as 0; below 256 ^ n; what is written there
 -- reads back, and what is read is written as it was. The idea: the byte is there, or nothing is from it on. Assumes nothing.
 use mathlib.Core.List.{List, ◌++◌}
-use mathlib.Core.Path.{◌≡◌, ◌∙◌}
-use Prim.Native.Nat.{ℕ, zero, suc, ◌+◌, ◌*◌, ◌≤◌, ◌<◌, ◌^◌}
+use mathlib.Core.Path.{◌≡◌, refl, ◌∙◌}
+use Prim.Native.Nat.{ℕ, zero, suc, ◌+◌, ◌-◌, ◌*◌, ◌≤◌, ◌<◌, ◌^◌}
 use native.Mathlib.Nat.{pow-succ'}
 use native.Mathlib.Decide.{dec_lt}
 use native.Mathlib.Numerals.{add-one}
@@ -29,6 +29,22 @@ number_at_one f at = number_at_suc f at zero ∙ none_after (get_or f at 0)
   where
     none_after : (b : ℕ) → b + 256 * 0 ≡ b
     none_after b = omega arith
+
+pub number_at_none : (f : List ℕ) (at : ℕ) → 0 ≡ number_at f at 0
+unfolding number_at number
+number_at_none f at = refl
+
+-- The number of the bytes from the one before the i-th on, up to the n-th.
+pub number_at_before : (f : List ℕ) (i n : ℕ) → 0 < i → i ≤ n → number_at f (i - 1) (n - (i - 1)) ≡ get_or f (i - 1) 0 + 256 * number_at f i (n - i)
+number_at_before f i n some within =
+    let more : n - (i - 1) ≡ suc (n - i) = omega arith in
+    let here : i - 1 + 1 ≡ i = omega arith in
+    rw (more, number_at_suc f (i - 1) (n - i), here)
+
+pub power_before : (i n : ℕ) → 0 < i → i ≤ n → 256 ^ (n - (i - 1)) ≡ 256 * 256 ^ (n - i)
+power_before i n some within =
+    let more : n - (i - 1) ≡ suc (n - i) = omega arith in
+    rw (more, pow-succ')
 
 pub number_at_three : (f : List ℕ) (at : ℕ) → number_at f at 3 ≡ get_or f at 0 + 256 * get_or f (at + 1) 0 + 65536 * get_or f (at + 2) 0
 number_at_three f at =

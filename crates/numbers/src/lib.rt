@@ -9,54 +9,21 @@ ghost use Rattle.numbers.specs.Numbers.{little, number_at};
 pub fn byte(bytes: &[u8], at: usize) -> u8
     ensures { result ≡ get_or bytes.now at 0 }
 {
-    if at < bytes.len() {
-        return bytes[at];
+    bytes.get(at).copied().unwrap_or(0)
+}
+
+// The number of N bytes from a byte on. (Not by a `fold` of the bytes in reverse: tried, and not proved, as its closure has no count that bounds x.)
+pub fn number<const N: usize>(bytes: &[u8], at: usize) -> u32
+    requires { N ≤ 4 }
+    ensures value { result ≡ number_at bytes.now at N }
+    ensures upper_bound { result < 256 ^ N }
+{
+    let rest = bytes.get(at..).unwrap_or(&[]);
+    let mut x = 0;
+    for i in (0..N).rev() {
+        x = 256 * x + byte(rest, i) as u32;
     }
-    0
-}
-
-// A byte as a number.
-pub fn wide(x: u8) -> u32
-    ensures value { result ≡ x }
-    ensures upper_bound { result < 2 ^ 8 }
-{
-    x as u32
-}
-
-// The numbers of one, two, three and four bytes from a byte on.
-pub fn one(bytes: &[u8], at: usize) -> u8
-    ensures { result ≡ number_at bytes.now at 1 }
-{
-    byte(bytes, at)
-}
-
-pub fn two(bytes: &[u8], at: usize) -> u32
-    requires { at < 2 ^ 36 }
-    ensures value { result ≡ number_at bytes.now at 2 }
-    ensures upper_bound { result < 2 ^ 16 }
-{
-    let low = wide(byte(bytes, at));
-    let high = wide(byte(bytes, at + 1));
-    low + 256 * high
-}
-
-pub fn three(bytes: &[u8], at: usize) -> u32
-    requires { at < 2 ^ 35 }
-    ensures value { result ≡ number_at bytes.now at 3 }
-    ensures upper_bound { result < 2 ^ 24 }
-{
-    let low = wide(byte(bytes, at));
-    let high = two(bytes, at + 1);
-    low + 256 * high
-}
-
-pub fn four(bytes: &[u8], at: usize) -> u32
-    requires { at < 2 ^ 34 }
-    ensures { result ≡ number_at bytes.now at 4 }
-{
-    let low = wide(byte(bytes, at));
-    let high = three(bytes, at + 1);
-    low + 256 * high
+    x
 }
 
 // The n lowest bytes of a number, put from a byte on.
@@ -64,13 +31,9 @@ pub fn put(out: &mut [u8], at: usize, n: usize, x: u32)
     requires { at + n ≤ length out.old }
     ensures { out.new ≡ sets out.old at (little n x) }
 {
-    let mut place = at;
-    let mut left = n;
     let mut rest = x;
-    while 0 < left {
-        out[place] = (rest % 256) as u8;
-        place += 1;
-        left -= 1;
+    for b in &mut out[at..at + n] {
+        *b = (rest % 256) as u8;
         rest /= 256;
     }
 }

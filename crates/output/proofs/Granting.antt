@@ -1,7 +1,7 @@
 -- Rule 1 where the bus grants and ENABLE is 1, by the number held and the room for the oldest word; and that a word lands within the frame buffer. Assumes nothing.
 use mathlib.Core.Bool.{Bool, true, false, ◌&&◌}
 use mathlib.Core.List.{List, [], ◌∷◌}
-use mathlib.Core.Option.{some}
+use Rattle.std.specs.Prelude.{Some}
 use mathlib.Core.Path.{◌≡◌, ap, ◌∙◌}
 use Prim.Native.Nat.{ℕ, ◌+◌, ◌*◌, ◌≤◌, ◌<◌}
 use native.Mathlib.Omega.{arith}
@@ -24,7 +24,7 @@ module _ (x : OutputState) (buffer : List ℕ) where
 
   pub grant_empty : x.output.held ≤ 0 → grant true true x buffer ≡ no_landing x buffer
   unfolding grant contents oldest_lands
-  grant_empty none = let z : x.output.held ≡ 0 = omega arith in rw z
+  grant_empty None = let z : x.output.held ≡ 0 = omega arith in rw z
 
 pub has_room : (k : ℕ) (buffer : List ℕ) → room k buffer ≡ true → 4 * k + 4 ≤ length buffer
 unfolding room
@@ -33,7 +33,7 @@ has_room k buffer e = leb-true _ _ e
 -- A word lands within the frame buffer.
 module _ (buffer : List ℕ) (b : ℕ) where
   Within : Granted → Type 0
-  Within g = g.landing ≡ some b → b < length buffer
+  Within g = g.landing ≡ Some b → b < length buffer
 
   nowhere : (x : OutputState) → Within (no_landing x buffer)
   unfolding Within no_landing
@@ -47,6 +47,6 @@ module _ (buffer : List ℕ) (b : ℕ) where
       (λ space e. let at : b ≡ 4 * x.output.place = cc in omega (arith, has_room x.output.place buffer space))
       (λ full. nowhere x)
 
-  pub landing_in : (granted enabled : Bool) (x : OutputState) → (grant granted enabled x buffer).landing ≡ some b → b < length buffer
+  pub landing_in : (granted enabled : Bool) (x : OutputState) → (grant granted enabled x buffer).landing ≡ Some b → b < length buffer
   unfolding grant Within
   landing_in granted enabled x = either Within (granted && enabled) (oldest_within (contents x) x) (nowhere x)

@@ -2,7 +2,7 @@
 -- every other proof. Each row says which sentence it is for (document 01). Assumes nothing.
 use mathlib.Core.Bool.{Bool, true, false}
 use mathlib.Core.List.{List, [], ◌∷◌, ◌++◌, map}
-use mathlib.Core.Option.{none, some}
+use Rattle.std.specs.Prelude.{None, Some}
 use mathlib.Core.Path.{◌≡◌, refl}
 use Prim.Native.Nat.{ℕ}
 use lib.ListN.{length, replicate}
@@ -35,14 +35,14 @@ abbrev granted : Bool → Bool → OutputState → ℕ → Granted
 granted grants enabled x n = grant grants enabled x (replicate n 0xEE)
 
 abbrev nothing_lands : OutputState → ℕ → Granted
-nothing_lands x n = record { state = x; buffer = replicate n 0xEE; landing = none }
+nothing_lands x n = record { state = x; buffer = replicate n 0xEE; landing = None }
 
 pub rule_1 :
     map (λ (n : ℕ). granted true true two_held n) (8 ∷ 9 ∷ 7 ∷ [])
     ≡
     -- the oldest goes to the next place, its lowest byte first; its byte is the answer; the others move up, place and landed go up by one
-    record { state = out 4 (v2 ∷ []) 2 9 3 2 0; buffer = 0xEE ∷ 0xEE ∷ 0xEE ∷ 0xEE ∷ 1 ∷ 2 ∷ 3 ∷ 4 ∷ []; landing = some 4 } ∷
-    record { state = out 4 (v2 ∷ []) 2 9 3 2 0; buffer = 0xEE ∷ 0xEE ∷ 0xEE ∷ 0xEE ∷ 1 ∷ 2 ∷ 3 ∷ 4 ∷ 0xEE ∷ []; landing = some 4 } ∷
+    record { state = out 4 (v2 ∷ []) 2 9 3 2 0; buffer = 0xEE ∷ 0xEE ∷ 0xEE ∷ 0xEE ∷ 1 ∷ 2 ∷ 3 ∷ 4 ∷ []; landing = Some 4 } ∷
+    record { state = out 4 (v2 ∷ []) 2 9 3 2 0; buffer = 0xEE ∷ 0xEE ∷ 0xEE ∷ 0xEE ∷ 1 ∷ 2 ∷ 3 ∷ 4 ∷ 0xEE ∷ []; landing = Some 4 } ∷
     -- "room" means that its four bytes exist
     nothing_lands two_held 7 ∷
     []
@@ -63,7 +63,7 @@ unfolding all_bytes little
 in_order = refl
 
 -- The answer as a byte of the lent memory.
-pub from_the_start : in_memory 10 (some 4) ∷ in_memory 10 none ∷ [] ≡ some 14 ∷ none ∷ []
+pub from_the_start : in_memory 10 (Some 4) ∷ in_memory 10 None ∷ [] ≡ Some 14 ∷ None ∷ []
 unfolding in_memory
 from_the_start = refl
 

@@ -1,6 +1,5 @@
 -- The counts as a ledger (document 01, "Memory and counts"): what a sample, its landing and the discarding of the held words enter. What a module's words and calls enter besides is its own.
-use Rattle.std.proofs.Math.Option.{Option, none, some}
-use Rattle.std.specs.Prelude.{ℕ, ◌+◌, ◌-◌}
+use Rattle.std.specs.Prelude.{Option, None, Some, ℕ, ◌+◌, ◌-◌}
 use Rattle.output.specs.declared.Output.{Output}
 
 -- The ledger: the four counts, and a number of held words of its own.
@@ -20,8 +19,8 @@ sample_entry l =
 
 -- Landed is the number of times that rule 1 was reached, by the sample's first answer: a held word lands, and is held no more.
 unfoldable pub landing_entry : Option ℕ → Ledger → Ledger
-landing_entry none l = l
-landing_entry (some byte) l =
+landing_entry None l = l
+landing_entry (Some byte) l =
     record { samples = l.samples; completed = l.completed; landed = l.landed + 1; discarded = l.discarded; held = l.held - 1 }
 
 -- The held words are thrown away.

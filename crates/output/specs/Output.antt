@@ -1,12 +1,15 @@
 -- Words on their way to memory (document 01, "One sample" and "Memory and counts"): rule 1, and of rule 9 what is no camera's matter. The FIFO is defined on
 -- its contents, the list of the held words.
-use Rattle.std.specs.Prelude.{Bool, cond, ◌&&◌, List, [], ◌∷◌, ◌++◌, ℕ, ◌+◌, ◌-◌, ◌*◌, ltb, leb, length, take, drop, replicate}
-use Rattle.std.proofs.Math.Option.{Option, none, some}
+use Rattle.std.specs.Prelude.{Bool, cond, ◌&&◌, List, [], ◌∷◌, ◌++◌, ℕ, ◌+◌, ◌-◌, ◌*◌, ltb, leb, length, take, drop, replicate, Option, None, Some}
 use Rattle.numbers.specs.Numbers.{little, number_at}
 use Rattle.output.specs.declared.Counts.{Counts}
 use Rattle.output.specs.declared.Output.{Output}
 use Rattle.output.specs.declared.Fate.{Fate}
 use Rattle.output.specs.declared.Fate.TheVariants.{Held, Lost}
+-- A sample's second answer: whether it completed no word, completed one, with its value, or lost one; and its two answers together.
+use Rattle.output.specs.declared.Packing.{Packing as Packed}
+use Rattle.output.specs.declared.Packing.TheVariants.{Nothing as nothing, Completed as completed, Lost as lost}
+use Rattle.output.specs.declared.SampleAnswer.{SampleAnswer}
 
 -- How many slots there are, for the greatest depth; and the depth where none is named (W9; the paper decides, 004, 32.3.10 has 8).
 abbrev pub slot_count : ℕ
@@ -110,12 +113,12 @@ pub record Granted : Type 0 where
   pub landing : Option ℕ
 
 unfoldable pub no_landing : OutputState → List ℕ → Granted
-no_landing x buffer = record { state = x; buffer = buffer; landing = none }
+no_landing x buffer = record { state = x; buffer = buffer; landing = None }
 
 -- Rule 1: the oldest held word, v, goes to memory, at the next place, and the others, vs, stay.
 unfoldable pub lands : ℕ → List ℕ → Output → List ℕ → Granted
 lands v vs o buffer =
-    record { state = holding (o.held - 1) vs (count_landed o); buffer = stored o.place v buffer; landing = some (4 * o.place) }
+    record { state = holding (o.held - 1) vs (count_landed o); buffer = stored o.place v buffer; landing = Some (4 * o.place) }
 
 -- Rule 1, by the held words: one is held, and there is room for it.
 unfoldable pub oldest_lands : List ℕ → OutputState → List ℕ → Granted
@@ -141,17 +144,7 @@ offer v x =
 unfoldable pub discard : ℕ → OutputState → OutputState
 discard more x = holding 0 [] (count_discarded (x.output.held + more) x.output)
 
--- A sample's second answer: whether it completed no word, completed one, with its value, or lost one.
-pub data Packed : Type 0 where
-  nothing : Packed
-  completed : ℕ → Packed
-  lost : Packed
-
--- Its first answer, the landing, as a byte of the lent memory, in which the frame buffer begins at the start byte; and the two together.
+-- A sample's first answer, the landing, as a byte of the lent memory, in which the frame buffer begins at the start byte.
 unfoldable pub in_memory : ℕ → Option ℕ → Option ℕ
-in_memory start none = none
-in_memory start (some byte) = some (start + byte)
-
-pub record SampleAnswer : Type 0 where
-  pub landing : Option ℕ
-  pub packed : Packed
+in_memory start None = None
+in_memory start (Some byte) = Some (start + byte)

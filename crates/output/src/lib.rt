@@ -27,22 +27,16 @@ pub struct Output {
     pub depth: u32,
 }
 
-// Rule 1's answer. At: the oldest held word landed at this byte of the frame buffer (`lands`). Nowhere: no word did (`no_landing`).
-#[derive(Clone, Copy)]
-pub enum Landing {
-    Nowhere,
-    At(usize),
-}
-
-// The output after rule 1, and where a word landed. The answer stands first for speed (docs/SPEED.md).
+// The output after rule 1, and the byte of the frame buffer at which the oldest held word landed, if it did (`lands`, `no_landing`). The answer stands first for speed
+// (docs/SPEED.md).
 #[derive(Clone, Copy)]
 pub struct Granted {
-    pub landing: Landing,
+    pub landing: Option<usize>,
     pub output: Output,
 }
 
 // What became of a full word.
-#[derive(Clone, Copy)]
+#[derive(Clone, Copy, Debug, PartialEq, Eq)]
 pub enum Fate {
     Held,
     Lost,
@@ -56,9 +50,16 @@ pub struct Offered {
 }
 
 // A sample's second answer, of its own word. Nothing: none was completed. Completed: one was, with its value, and is held. Lost: one was lost.
-#[derive(Clone, Copy)]
+#[derive(Clone, Copy, Debug, PartialEq, Eq)]
 pub enum Packing {
     Nothing,
     Completed(u32),
     Lost,
+}
+
+// A sample's two answers: the byte at which a word landed, if one did, and what became of the sample's own word.
+#[derive(Clone, Copy, Debug, PartialEq, Eq)]
+pub struct SampleAnswer {
+    pub landing: Option<usize>,
+    pub packed: Packing,
 }

@@ -1,4 +1,4 @@
--- The two layouts of a word, the weight of each place in it, and that bits with one datum more above them fit. Assumes nothing.
+-- The two layouts of a word, and that bits with one datum more above them fit. Assumes nothing.
 use mathlib.Core.Bool.{Bool, true, false, cond}
 use mathlib.Core.Path.{◌≡◌, refl}
 use Prim.Native.Nat.{ℕ, ◌+◌, ◌*◌, ◌^◌, ◌≤◌, ◌<◌}
@@ -72,20 +72,3 @@ module _ (e : ℕ) (le : e ≤ 3) (c bits x : ℕ) (used : bits < 2 ^ (width e *
           (above _ _ _ _
           (lt_of_lt_of_le used (pow_mono (mul-le-mul_right c narrow)))
           (lt_of_lt_of_le (mod-lt x (pow_pos _)) (pow_mono narrow)))
-
--- The weight of a datum's place: in lanes of 16 bits the second's, in lanes of 8 bits each one's.
-pub wide_weight : (e c : ℕ) → lane e ≡ 16 → c < per_word e → (c ≡ 0 → ⊥) → 2 ^ (lane e * c) ≡ 65536
-unfolding lane per_word
-wide_weight e c = go (eqb e 0)
-  where
-    go : (b : Bool) → ◌≡◌ {A = ℕ} (cond b 8 16) 16 → c < cond b 4 2 → (c ≡ 0 → ⊥) → 2 ^ (cond b 8 16 * c) ≡ 65536
-    go true is h z = absurd (omega arith)
-    go false is h z = let one : c ≡ 1 = omega arith in rw one
-
-pub narrow_weight : (e c k : ℕ) → (lane e ≡ 16 → ⊥) → c < per_word e → (c < 4 → c ≡ k) → 2 ^ (lane e * c) ≡ 2 ^ (8 * k)
-unfolding lane per_word
-narrow_weight e c k = go (eqb e 0)
-  where
-    go : (b : Bool) → (◌≡◌ {A = ℕ} (cond b 8 16) 16 → ⊥) → c < cond b 4 2 → (c < 4 → c ≡ k) → 2 ^ (cond b 8 16 * c) ≡ 2 ^ (8 * k)
-    go true z h is = rw (is h)
-    go false z h is = absurd (z refl)

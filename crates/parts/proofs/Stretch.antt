@@ -6,17 +6,21 @@ use mathlib.Core.Path.{◌≡◌, refl, sym, ap, ◌∙◌}
 use Prim.Native.Nat.{ℕ, zero, suc, ◌+◌, ◌-◌, ◌*◌, ◌/◌, ◌%◌, ◌≤◌, ◌<◌}
 use native.Mathlib.Omega.{arith}
 use lib.Dec.{eqb, ltb}
-use lib.ListN.{length, take, drop, get_or, length-drop, take-append-drop, drop_of_length-le}
-use lib.Seq.{sets, length-sets, drop-cons, drop-drop, take_at, take-add, length-take-le, drop-length}
+use lib.ListN.{length, take, drop, get_or, length-drop, take-append-drop}
+use lib.Seq.{sets, length-sets, take_at, length-take-le, drop-length, take_all}
 use borrow.Author.Tests.{eqb-true, ltb-false}
-use Rattle.numbers.specs.Numbers.{number_at}
+use Rattle.std.specs.Prelude.{Result, Ok, Err, is_ok, is_err}
+use Rattle.refusals.specs.declared.Refusal.{Refusal}
+use Rattle.refusals.specs.Table.{outcome}
+use Rattle.refusals.proofs.Numbered.{never_zero}
 use Rattle.rules.specs.declared.Device.{Device}
 use Rattle.rules.specs.Run.{RunResult, run}
 use Rattle.sampling.proofs.AcceptedRuns.{accepted_run}
 use Rattle.trace_format.specs.Format.{header_length, sample_size}
 use Rattle.trace_format.specs.Reading.{version_of, sample_count, sample_start, whole, header_refusal}
-use Rattle.trace.specs.Decoding.{samples_in, how_many}
-use Rattle.trace.proofs.ManySamples.{samples_in_length}
+use Rattle.trace.specs.Answers.{samples}
+use Rattle.trace.specs.Decoding.{samples_in, how_many, samples_at}
+use Rattle.trace.proofs.ManySamples.{samples_in_length, samples_take, taken_apart}
 use Rattle.numbers.proofs.Putting.{put_over}
 use Rattle.file_rules.specs.Parts.{Taken, no_item, wants, take_byte, take_bytes}
 use Rattle.parts.specs.Forward.{samples_left}
@@ -25,26 +29,20 @@ use Rattle.file_rules.proofs.Singles.{by_bool, singles, singles_run}
 use Rattle.file_rules.proofs.Content.{Passes, some_samples}
 use Rattle.file_rules.proofs.Header.{wants_within, passes_on}
 
-pub positive : (n : ℕ) → (n ≡ 0 → ⊥) → 0 < n
-positive zero some = absurd (some refl)
-positive (suc n) some = omega arith
+-- What an outcome's test says of its number.
+pub accepted : {A : Type 0} (r : Result A Refusal) → is_err r ≡ false → outcome r ≡ 0
+accepted (Ok a) e = refl
+accepted (Err x) e = cc
+
+pub is_refused : {A : Type 0} (r : Result A Refusal) → is_ok r ≡ false → eqb (outcome r) 0 ≡ false
+is_refused (Ok a) e = cc
+is_refused (Err x) e = never_zero x
 
 -- No byte.
 pub none_taken : (start : ℕ) (t : Taken) (bs : List ℕ) → length bs ≡ 0 → t ≡ take_bytes start t bs
 unfolding take_bytes
 none_taken start t [] e = refl
 none_taken start t (b ∷ bs) e = absurd (omega arith)
-
--- The samples of some bytes, from fewer of them.
-front : (n : ℕ) (r : List ℕ) → sample_size * n ≤ length r → samples_in n (take (sample_size * n) r) ≡ samples_in n r
-unfolding samples_in number_at
-front zero r h = refl
-front (suc n) [] h = absurd (omega arith)
-front (suc n) (a ∷ []) h = absurd (omega arith)
-front (suc n) (a ∷ b ∷ []) h = absurd (omega arith)
-front (suc n) (a ∷ b ∷ c ∷ r) h =
-    let size : sample_size * suc n ≡ 3 + sample_size * n = omega arith in
-    rw (size, take-add 3 (sample_size * n) (a ∷ b ∷ c ∷ r)) (ap (λ (l : List ℕ). number_at (a ∷ b ∷ c ∷ []) 0 sample_size ∷ l) (front n r (omega arith)))
 
 -- Where samples are left, one begins.
 pub record Begins (h : List ℕ) (n : ℕ) : Type 0 where
@@ -84,7 +82,7 @@ module _ (start : ℕ) (h : List ℕ) (passes : Passes h) (j : ℕ) (item : List
   one_run k ws many some accepted =
       let a = accepted_run d m start ws accepted in
       let same = singles_run start d m ws (omega (arith, a.fits)) in
-      let pos : 0 < length ws = positive (length ws) (λ e. some (sym many ∙ e)) in
+      let pos : 0 < length ws = omega (arith, many, some) in
       same.whole (same.number pos ∙ accepted) pos
 
   run_at_once : (k : ℕ) (r ws : List ℕ) → j + k ≤ sample_count h → length r ≡ sample_size * k → length ws ≡ k → (k ≡ 0 → ⊥) → samples_in k r ≡ ws → (run d m start ws).number ≡ 0
@@ -103,55 +101,57 @@ counted start h n item d number m bs more low some few =
     let (passes, within) = wants_within h n more low in
     sym (counts start h (passes_on h n passes low) d m n item number bs low (omega arith) some)
 
--- The samples of a part as one run: k of them stand at the front of an array.
-module _ (h : List ℕ) (n : ℕ) (bytes : List ℕ) (from : ℕ) (within : from < length bytes) (array array' : List ℕ) (k : ℕ)
-    (many : k ≡ how_many bytes from (samples_left h n) (length array)) (filled : array' ≡ sets array 0 (samples_in k (drop from bytes))) where
-  pub few : (k ≤ length array) × (k ≤ samples_left h n) × (from + sample_size * k ≤ length bytes)
+-- The samples at the front of a part as one run: k of them stand at the front of an array.
+module _ (h : List ℕ) (n : ℕ) (bytes array array' : List ℕ) (most : ℕ) (r : Result ℕ Refusal) (k : ℕ) (left : most ≡ samples_left h n)
+    (told : samples r ≡ samples_at bytes 0 most (length array)) (put : array' ≡ sets array 0 (samples_in (how_many bytes 0 most (length array)) bytes)) (is : r ≡ Ok k) where
+  many : k ≡ how_many bytes 0 (samples_left h n) (length array)
+  many = (taken_apart bytes 0 (samples_left h n) (length array) r k is (rw left at told)).is
+
+  filled : array' ≡ sets array 0 (samples_in k bytes)
+  filled = rw (left, ← many) at put
+
+  pub few : (k ≤ length array) × (k ≤ samples_left h n) × (sample_size * k ≤ length bytes)
   unfolding how_many
-  few = (omega arith, omega arith, omega arith)
+  few = (omega (arith, many), omega (arith, many), omega (arith, many))
 
   pub front_room : k ≤ length array'
   front_room = rw (filled, length-sets) few.0
 
-  there : sample_size * k ≤ length (drop from bytes)
-  there = rw (length-drop from bytes) (omega (arith, few.2))
-
-  front_samples : take k array' ≡ samples_in k (drop from bytes)
+  front_samples : take k array' ≡ samples_in k bytes
   front_samples =
-      let l = samples_in_length k (drop from bytes) in
-      rw (filled, put_over array (samples_in k (drop from bytes)) k l few.0) (take_at (samples_in k (drop from bytes)) (drop k array) k l)
+      let l = samples_in_length k bytes in
+      rw (filled, put_over array (samples_in k bytes) k l few.0) (take_at (samples_in k bytes) (drop k array) k l)
 
-  pub stretch_taken : (start : ℕ) (item : List ℕ) (d : Device) (number : ℕ) (m : List ℕ) (r : RunResult) → length item ≡ 5 → eqb number 0 ≡ true → (k ≡ 0 → ⊥) → r ≡ run d m start (take k array') → r.number ≡ 0
-      → at h (n + sample_size * k) no_item r.device r.number r.memory ≡ take_bytes start (at h n item d number m) (take (sample_size * k) (drop from bytes))
-  stretch_taken start item d number m r long fine some is accepted =
-      let ws : List ℕ = samples_in k (drop from bytes) in
-      let ran : r ≡ run d m start ws = is ∙ ap (run d m start) front_samples in
-      let none : (run d m start ws).number ≡ 0 = sym (ap (λ (x : RunResult). x.number) ran) ∙ accepted in
-      let b = begins h n (omega (arith, few.1, positive k some)) in
-      let once = run_at_once start h b.passes b.place item long d m k (take (sample_size * k) (drop from bytes)) ws (omega (arith, b.left, few.1)) (length-take-le (sample_size * k) (drop from bytes) there) (samples_in_length k (drop from bytes)) some (front k (drop from bytes) there) none in
-      rw (eqb-true number 0 fine, ran, none)
+  pub stretch_taken : (start : ℕ) (item : List ℕ) (d : Device) (number : ℕ) (m : List ℕ) (ran : RunResult) → length item ≡ 5 → number ≡ 0 → 0 < k → ran ≡ run d m start (take k array') → ran.number ≡ 0
+      → at h (n + sample_size * k) no_item ran.device number ran.memory ≡ take_bytes start (at h n item d number m) (take (sample_size * k) bytes)
+  stretch_taken start item d number m ran long fine some is_run accepted =
+      let ws : List ℕ = samples_in k bytes in
+      let same : ran ≡ run d m start ws = is_run ∙ ap (run d m start) front_samples in
+      let none : (run d m start ws).number ≡ 0 = sym (ap (λ (x : RunResult). x.number) same) ∙ accepted in
+      let b = begins h n (omega (arith, few.1, some)) in
+      let once = run_at_once start h b.passes b.place item long d m k (take (sample_size * k) bytes) ws (omega (arith, b.left, few.1)) (length-take-le (sample_size * k) bytes few.2) (samples_in_length k bytes) (omega (arith, some)) (samples_take k bytes few.2) none in
+      rw (fine, same)
       (ap (λ (x : ℕ). at h (x + sample_size * k) no_item (run d m start ws).device 0 (run d m start ws).memory) b.is
       ∙ sym once
-      ∙ ap (λ (x : ℕ). take_bytes start (at h x item d 0 m) (take (sample_size * k) (drop from bytes))) (sym b.is))
+      ∙ ap (λ (x : ℕ). take_bytes start (at h x item d 0 m) (take (sample_size * k) bytes)) (sym b.is))
 
--- One byte of some, and some bytes then others.
-pub one_byte : (start : ℕ) (t : Taken) (bytes : List ℕ) (from : ℕ) → from < length bytes → take_byte start t (get_or bytes from 0) ≡ take_bytes start t (take 1 (drop from bytes))
+-- One byte, and the first of some bytes then the rest of them.
+pub one_byte : (start : ℕ) (t : Taken) (bytes : List ℕ) → 0 < length bytes → take_byte start t (get_or bytes 0 0) ≡ take_bytes start t (take 1 bytes)
 unfolding take_bytes
-one_byte start t bytes from within = rw (drop-cons bytes from 0 within)
+one_byte start t [] some = absurd (omega arith)
+one_byte start t (b ∷ bs) some = refl
 
 pub nothing_yet : (start : ℕ) (t : Taken) (bs : List ℕ) (n : ℕ) → n ≡ 0 → take_bytes start t (take n bs) ≡ t
 unfolding take_bytes
 nothing_yet start t bs n e = rw e
 
-pub part_length : (bytes : List ℕ) (from n : ℕ) → from ≤ length bytes → n ≤ length bytes - from → length (take n (drop from bytes)) ≡ n
-part_length bytes from n within few = length-take-le n (drop from bytes) (rw (length-drop from bytes) few)
+-- What is left of a part behind the bytes that are taken.
+pub taken_on : (start : ℕ) (t t₀ t' : Taken) (rest bytes : List ℕ) (n : ℕ) → take_bytes start t rest ≡ take_bytes start t₀ bytes → t' ≡ take_bytes start t (take n rest)
+    → take_bytes start t' (take (length rest - n) (drop n rest)) ≡ take_bytes start t₀ bytes
+taken_on start t t₀ t' rest bytes n all some =
+    rw (take_all (length rest - n) (drop n rest) (omega (arith, length-drop n rest)), some, ← bytes_append start t (take n rest) (drop n rest), take-append-drop n rest) all
 
--- A part from a byte on: what is taken and what is left of it.
-pub taken_on : (start : ℕ) (t t₀ t' : Taken) (bytes : List ℕ) (from n : ℕ) → take_bytes start t (drop from bytes) ≡ take_bytes start t₀ bytes → t' ≡ take_bytes start t (take n (drop from bytes))
-    → take_bytes start t' (drop (from + n) bytes) ≡ take_bytes start t₀ bytes
-taken_on start t t₀ t' bytes from n all some =
-    rw (some, ← drop-drop n from bytes, ← bytes_append start t (take n (drop from bytes)) (drop n (drop from bytes)), take-append-drop n (drop from bytes)) all
-
-pub taken_all : (start : ℕ) (t t₀ : Taken) (bytes : List ℕ) (from : ℕ) → take_bytes start t (drop from bytes) ≡ take_bytes start t₀ bytes → length bytes ≤ from → t ≡ take_bytes start t₀ bytes
+pub taken_all : (start : ℕ) (t t₀ : Taken) (rest bytes : List ℕ) → take_bytes start t rest ≡ take_bytes start t₀ bytes → length rest ≡ 0 → t ≡ take_bytes start t₀ bytes
 unfolding take_bytes
-taken_all start t t₀ bytes from all past = rw (drop_of_length-le bytes past) at all
+taken_all start t t₀ [] bytes all none = all
+taken_all start t t₀ (b ∷ bs) bytes all none = absurd (omega arith)

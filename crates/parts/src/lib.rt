@@ -2,8 +2,7 @@
 // refusal of the file: it remembers the first refused write or sample and goes on counting. A part's samples are run by stretches, its other bytes one at a time.
 #![tactic(auto)]
 
-ghost use Rattle.std.specs.Prelude.{true, List, ◌≡◌, ℕ, ◌+◌, ◌*◌, ◌≤◌, ◌<◌, ◌^◌, min, eqb, length, take, drop};
-ghost use Rattle.refusals.specs.Table.{outcome as number};
+ghost use Rattle.std.specs.Prelude.{List, ◌≡◌, ℕ, ◌+◌, ◌*◌, ◌≤◌, ◌<◌, ◌^◌, length, take};
 ghost use Rattle.rules.specs.RegisterCalls as register_rules;
 ghost use Rattle.trace_format.specs.Format as format;
 ghost use Rattle.trace_format.specs.Reading as reading;
@@ -12,410 +11,266 @@ ghost use Rattle.file_rules.specs.Parts as parts_rules;
 ghost use Rattle.parts.specs.Answers as parts_answers;
 ghost use Rattle.parts.specs.Forward as forward;
 
-use device::Changed;
-use refusals::{Outcome, Refusal};
+use refusals::Refusal;
 use rules::Device;
 use trace::{
-    Samples, check_header, form_of, header_length, sample_count, sample_in, samples_at,
-    samples_start, write_in,
+    check_header, form_of, header_length, sample_count, sample_in, samples_at, samples_start,
+    write_in,
 };
+use trace_format::{SAMPLE_SIZE, WRITE_SIZE};
 
 // The state between two parts: the header as far as it has come, how many bytes have come, the bytes of the write or sample that has begun, the device, and the first
-// refused write or sample.
+// refused write or sample. The device stands beside the outcome: a refusal leaves it, as `parts_rules.State` says. `head` and `item` are arrays, and `taken` counts beside them:
+// there is no heap, and `parts_rules.State` has them so.
 #[derive(Clone, Copy)]
 pub struct Parts {
     pub head: [u8; 10],
     pub taken: usize,
     pub item: [u8; 5],
     pub device: Device,
-    pub outcome: Outcome,
+    pub outcome: Result<(), Refusal>,
 }
 
-// A state after some bytes of a part, and how many.
-#[derive(Clone, Copy)]
-struct Forward {
-    parts: Parts,
-    bytes: usize,
-}
-
-// The state before the first byte, with a device: a fresh one, or one made with a depth, for the run of a file. A malformed one is refused, 1, at the first write or sample.
-pub fn open(device: Device) -> Parts
-    ensures { parts_answers.state result ≡ parts_rules.opened device }
-{
-    Parts {
-        head: [0; 10],
-        taken: 0,
-        item: [0; 5],
-        device,
-        outcome: Outcome::Accepted,
-    }
-}
-
-// The length that a header gives.
-fn whole(head: &[u8]) -> usize
-    ensures value { result ≡ reading.whole head.now }
-    ensures upper_bound { result < 2 ^ 34 }
-{
-    samples_start(head) + 3 * sample_count(head)
-}
-
-// Whether a byte more can change the answer.
-fn wants(head: &[u8], taken: usize) -> bool
-    ensures { result ≡ parts_rules.wants head.now taken }
-{
-    let header = check_header(head, taken);
-    let Outcome::Refused(refusal) = header else {
-        return taken <= whole(head);
-    };
-    refusal.number() == 13
-}
-
-// How many bytes more are wanted before a refusal can be certain; 0 where no further byte changes the answer.
-pub fn wanted(parts: Parts) -> usize
-    ensures value { result ≡ parts_rules.wanted parts.head parts.taken }
-    ensures result_bound { 0 < result → parts.taken + result < 2 ^ 35 }
-{
-    let head = parts.head;
-    let taken = parts.taken;
-    if wants(&head, taken) {
-        if taken < 8 {
-            return 8 - taken;
+impl Parts {
+    // The state before the first byte, with a device: a fresh one, or one made with a depth, for the run of a file. A malformed one is refused, 1, at the first write or sample.
+    #[tactic(auto, unfolding(file_rules::specs::Parts::opened))]
+    pub fn open(device: Device) -> Parts
+        ensures { parts_answers.state result ≡ parts_rules.opened device }
+    {
+        Parts {
+            head: [0; 10],
+            taken: 0,
+            item: [0; 5],
+            device,
+            outcome: Ok(()),
         }
-        let header = header_length(&head);
-        if taken < header {
-            return header - taken;
+    }
+
+    // The length that the header gives.
+    fn whole(&self) -> usize
+        ensures value { result ≡ reading.whole self.now.head }
+        ensures upper_bound { result < 2 ^ 34 }
+    {
+        samples_start(&self.head) + SAMPLE_SIZE * sample_count(&self.head)
+    }
+
+    // Whether a byte more can change the answer.
+    #[tactic(auto, using(refusals::proofs::Numbered::never_zero), unfolding(file_rules::specs::Parts::wants))]
+    fn wants(&self) -> bool
+        ensures { result ≡ parts_rules.wants self.now.head self.now.taken }
+    {
+        match check_header(&self.head, self.taken) {
+            Ok(()) => self.taken <= self.whole(),
+            Err(refusal) => matches!(refusal, Refusal::Length),
         }
-        return whole(&head) + 1 - taken;
     }
-    0
-}
 
-// One byte more, with header and item.
-fn next(parts: Parts, head: [u8; 10], item: [u8; 5]) -> Parts
-    requires { parts.taken < 2 ^ 35 }
-    ensures { parts_answers.state result ≡ parts_rules.next (parts_answers.state parts) head item }
-{
-    let device = parts.device;
-    let outcome = parts.outcome;
-    Parts {
-        head,
-        taken: parts.taken + 1,
-        item,
-        device,
-        outcome,
-    }
-}
-
-// A write, and a sample, with all its bytes.
-fn after_write(parts: Parts) -> Parts
-    ensures { parts_answers.state result ≡ parts_rules.after_write (parts_answers.state parts) }
-{
-    let head = parts.head;
-    let item = parts.item;
-    let d = parts.device;
-    let w = write_in(&item);
-    let written = device::write(d, w.offset as u32, w.value);
-    let device = written.device;
-    let outcome = written.outcome;
-    Parts {
-        head,
-        taken: parts.taken,
-        item: [0; 5],
-        device,
-        outcome,
-    }
-}
-
-fn after_sample(parts: Parts, memory: &mut [u8], start: usize) -> Parts
-    ensures { parts_answers.taken result memory.new ≡ parts_rules.after_sample start (parts_answers.state parts) memory.old }
-{
-    let head = parts.head;
-    let item = parts.item;
-    let d = parts.device;
-    let samples = [sample_in(&item)];
-    let ran = device::run(d, memory, start, &samples);
-    let device = ran.device;
-    let outcome = ran.outcome;
-    Parts {
-        head,
-        taken: parts.taken,
-        item: [0; 5],
-        device,
-        outcome,
-    }
-}
-
-// A byte of the header, of a write, of a sample.
-fn header_byte(parts: Parts, b: u8) -> Parts
-    requires { parts.taken < 10 }
-    ensures { parts_answers.state result ≡ parts_rules.header_byte (parts_answers.state parts) b }
-{
-    let mut head = parts.head;
-    let item = parts.item;
-    let taken = parts.taken;
-    head[taken] = b;
-    next(parts, head, item)
-}
-
-fn write_byte(parts: Parts, b: u8) -> Parts
-    requires { (format.header_length (reading.version_of parts.head) ≤ parts.taken) × (parts.taken < 2 ^ 35) }
-    ensures { parts_answers.state result ≡ parts_rules.write_byte (parts_answers.state parts) (parts_rules.write_place (parts_answers.state parts)) b }
-{
-    let head = parts.head;
-    let place = (parts.taken - header_length(&head)) % 5;
-    let mut item = parts.item;
-    item[place] = b;
-    let after = next(parts, head, item);
-    if place + 1 == 5 {
-        return after_write(after);
-    }
-    after
-}
-
-fn sample_byte(parts: Parts, b: u8, memory: &mut [u8], start: usize) -> Parts
-    requires { (reading.sample_start parts.head 0 ≤ parts.taken) × (parts.taken < 2 ^ 35) }
-    ensures { parts_answers.taken result memory.new ≡ parts_rules.sample_byte start (parts_answers.taken parts memory.old) (parts_rules.sample_place (parts_answers.state parts)) b }
-{
-    let head = parts.head;
-    let place = (parts.taken - samples_start(&head)) % 3;
-    let mut item = parts.item;
-    item[place] = b;
-    let after = next(parts, head, item);
-    if place + 1 == 3 {
-        return after_sample(after, memory, start);
-    }
-    after
-}
-
-// Whether no write or sample was refused.
-fn fine(outcome: Outcome) -> bool
-    ensures { result ≡ eqb (number outcome) 0 }
-{
-    let Outcome::Accepted = outcome else {
-        return false;
-    };
-    true
-}
-
-// A wanted byte behind the header.
-fn item_byte(parts: Parts, b: u8, memory: &mut [u8], start: usize) -> Parts
-    requires { (parts_rules.wants parts.head parts.taken ≡ true) × (format.header_length (reading.version_of parts.head) ≤ parts.taken) }
-    ensures { parts_answers.taken result memory.new ≡ parts_rules.take_byte start (parts_answers.taken parts memory.old) b }
-{
-    let head = parts.head;
-    let item = parts.item;
-    let outcome = parts.outcome;
-    let whole = whole(&head);
-    if fine(outcome) {
-        if parts.taken < whole {
-            let from = samples_start(&head);
-            if parts.taken < from {
-                return write_byte(parts, b);
-            }
-            return sample_byte(parts, b, memory, start);
-        }
-        return next(parts, head, item);
-    }
-    next(parts, head, item)
-}
-
-// The next byte.
-fn take_byte(parts: Parts, b: u8, memory: &mut [u8], start: usize) -> Parts
-    ensures { parts_answers.taken result memory.new ≡ parts_rules.take_byte start (parts_answers.taken parts memory.old) b }
-{
-    let head = parts.head;
-    if wants(&head, parts.taken) {
-        let header = header_length(&head);
-        if parts.taken < header {
-            return header_byte(parts, b);
-        }
-        return item_byte(parts, b, memory, start);
-    }
-    parts
-}
-
-// No item has begun: the bytes of the one before do not count.
-fn cleared(item: [u8; 5]) -> [u8; 5]
-    ensures { (length item ≡ 5) × (result ≡ parts_rules.no_item) }
-{
-    [0; 5]
-}
-
-// The samples left in the file, where one begins.
-fn samples_left(head: &[u8], taken: usize) -> usize
-    ensures value { result ≡ forward.samples_left head.now taken }
-    ensures result_bound { 0 < result → taken + format.sample_size * result < 2 ^ 34 }
-{
-    let header = check_header(head, taken);
-    let Outcome::Accepted = header else {
-        return 0;
-    };
-    let from = samples_start(head);
-    if taken < from {
-        return 0;
-    }
-    if (taken - from) % 3 == 0 {
-        let whole = whole(head);
-        if whole < taken {
+    // How many bytes more are wanted before a refusal can be certain; 0 where no further byte changes the answer.
+    #[tactic(auto, unfolding(file_rules::specs::Parts::wanted))]
+    pub fn wanted(&self) -> usize
+        ensures value { result ≡ parts_rules.wanted self.now.head self.now.taken }
+        ensures result_bound { 0 < result → self.now.taken + result < 2 ^ 35 }
+    {
+        if !self.wants() {
             return 0;
         }
-        return (whole - taken) / 3;
+        if self.taken < 8 {
+            return 8 - self.taken;
+        }
+        let header = header_length(&self.head);
+        if self.taken < header {
+            return header - self.taken;
+        }
+        self.whole() + 1 - self.taken
     }
-    0
-}
 
-// The samples of a part from a byte on, up to 512, as one run. No byte is taken where no sample begins, and where one of them or the run is refused: the bytes one at a time tell
-// which sample it is.
-fn take_samples(parts: Parts, bytes: &[u8], at: usize, memory: &mut [u8], start: usize) -> Forward
-    requires { at < length bytes.now }
-    ensures bytes_in_bounds { at + result.bytes ≤ length bytes.now }
-    ensures memory_after { parts_answers.taken result.parts memory.new ≡ parts_rules.take_bytes start (parts_answers.taken parts memory.old) (take result.bytes (drop at bytes.now)) }
-{
-    let head = parts.head;
-    let item = parts.item;
-    let taken = parts.taken;
-    let outcome = parts.outcome;
-    if fine(outcome) {
+    // A write or sample with all its bytes has left this device, or is refused.
+    fn note(&mut self, done: Result<Device, Refusal>)
+        ensures { parts_answers.state self.new ≡ forward.noted (parts_answers.state self.old) (device_answers.changed self.old.device done) }
+    {
+        self.item = [0; 5];
+        self.outcome = done.map(|_| ());
+        if let Ok(device) = done {
+            self.device = device;
+        }
+    }
+
+    // A write, and a sample, with all its bytes.
+    #[tactic(auto, unfolding(file_rules::specs::Parts::after_write))]
+    fn after_write(&mut self)
+        ensures { parts_answers.state self.new ≡ parts_rules.after_write (parts_answers.state self.old) }
+    {
+        let w = write_in(&self.item);
+        self.note(device::write(self.device, w.offset as u32, w.value));
+    }
+
+    #[tactic(auto, unfolding(file_rules::specs::Parts::after_sample))]
+    fn after_sample(&mut self, memory: &mut [u8], start: usize)
+        ensures { parts_answers.taken self.new memory.new ≡ parts_rules.after_sample start (parts_answers.state self.old) memory.old }
+    {
+        let samples = [sample_in(&self.item)];
+        self.note(device::run(self.device, memory, start, &samples));
+    }
+
+    // A byte of the header, of a write, of a sample.
+    fn header_byte(&mut self, b: u8)
+        requires { self.old.taken < 10 }
+        ensures { parts_answers.state self.new ≡ parts_rules.header_byte (parts_answers.state self.old) b }
+    {
+        self.head[self.taken] = b;
+        self.taken += 1;
+    }
+
+    #[tactic(auto, unfolding(file_rules::specs::Parts::write_byte))]
+    fn write_byte(&mut self, b: u8)
+        requires { (format.header_length (reading.version_of self.old.head) ≤ self.old.taken) × (self.old.taken < 2 ^ 35) }
+        ensures { parts_answers.state self.new ≡ parts_rules.write_byte (parts_answers.state self.old) (parts_rules.write_place (parts_answers.state self.old)) b }
+    {
+        let place = (self.taken - header_length(&self.head)) % WRITE_SIZE;
+        self.item[place] = b;
+        self.taken += 1;
+        if place + 1 == WRITE_SIZE {
+            self.after_write();
+        }
+    }
+
+    #[tactic(auto, unfolding(file_rules::specs::Parts::sample_byte))]
+    fn sample_byte(&mut self, b: u8, memory: &mut [u8], start: usize)
+        requires { (reading.sample_start self.old.head 0 ≤ self.old.taken) × (self.old.taken < 2 ^ 35) }
+        ensures { parts_answers.taken self.new memory.new ≡ parts_rules.sample_byte start (parts_answers.taken self.old memory.old) (parts_rules.sample_place (parts_answers.state self.old)) b }
+    {
+        let place = (self.taken - samples_start(&self.head)) % SAMPLE_SIZE;
+        self.item[place] = b;
+        self.taken += 1;
+        if place + 1 == SAMPLE_SIZE {
+            self.after_sample(memory, start);
+        }
+    }
+
+    // The next byte.
+    #[tactic(auto, unfolding(file_rules::specs::Parts::take_byte, file_rules::specs::Parts::falls, file_rules::specs::Parts::byte_at))]
+    fn take_byte(&mut self, b: u8, memory: &mut [u8], start: usize)
+        ensures { parts_answers.taken self.new memory.new ≡ parts_rules.take_byte start (parts_answers.taken self.old memory.old) b }
+    {
+        if !self.wants() {
+            return;
+        }
+        if self.taken < header_length(&self.head) {
+            return self.header_byte(b);
+        }
+        let whole = self.whole();
+        if self.outcome.is_ok() {
+            if self.taken < samples_start(&self.head) {
+                return self.write_byte(b);
+            }
+            if self.taken < whole {
+                return self.sample_byte(b, memory, start);
+            }
+        }
+        self.taken += 1;
+    }
+
+    // The samples left in the file, where one begins.
+    #[tactic(auto, using(refusals::proofs::Numbered::never_zero), unfolding(crate::specs::Forward::samples_left))]
+    fn samples_left(&self) -> usize
+        ensures value { result ≡ forward.samples_left self.now.head self.now.taken }
+        ensures result_bound { 0 < result → self.now.taken + format.sample_size * result < 2 ^ 34 }
+    {
+        if check_header(&self.head, self.taken).is_err() {
+            return 0;
+        }
+        let from = samples_start(&self.head);
+        if self.taken < from {
+            return 0;
+        }
+        if (self.taken - from) % SAMPLE_SIZE != 0 {
+            return 0;
+        }
+        self.whole().saturating_sub(self.taken) / SAMPLE_SIZE
+    }
+
+    // The samples at the front of some bytes, up to 512, as one run: how many bytes they are. No byte is taken where no sample begins, and where one of them or the run is
+    // refused: the bytes one at a time tell which sample it is.
+    fn take_samples(&mut self, bytes: &[u8], memory: &mut [u8], start: usize) -> usize
+        ensures bytes_in_bounds { result ≤ length bytes.now }
+        ensures memory_after { parts_answers.taken self.new memory.new ≡ parts_rules.take_bytes start (parts_answers.taken self.old memory.old) (take result bytes.now) }
+    {
+        if self.outcome.is_err() {
+            return 0;
+        }
         let mut samples = [0; 512];
-        let next = samples_at(bytes, at, samples_left(&head, taken), &mut samples);
-        let Samples::Many(n) = next else {
-            return Forward { parts, bytes: 0 };
+        let Ok(n @ 1..) = samples_at(bytes, 0, self.samples_left(), &mut samples) else {
+            return 0;
         };
-        let d = parts.device;
-        let ran = device::run(d, memory, start, &samples[..n]);
-        let device = ran.device;
-        let outcome = ran.outcome;
-        let Outcome::Accepted = outcome else {
-            return Forward { parts, bytes: 0 };
+        let Ok(device) = device::run(self.device, memory, start, &samples[..n]) else {
+            return 0;
         };
-        let size = 3 * n;
-        let passed = taken + size;
-        let after = Parts {
-            head,
-            taken: passed,
-            item: cleared(item),
-            device,
-            outcome,
-        };
-        return Forward {
-            parts: after,
-            bytes: size,
-        };
+        self.device = device;
+        self.item = [0; 5];
+        self.taken += SAMPLE_SIZE * n;
+        SAMPLE_SIZE * n
     }
-    Forward { parts, bytes: 0 }
-}
 
-fn fewer(a: usize, b: usize) -> usize
-    ensures { result ≡ min a b }
-{
-    if a < b {
-        return a;
-    }
-    b
-}
-
-// Bytes that are counted only, behind a refused write or sample; and bytes that are not wanted, not even counted. At most n of them.
-fn count_bytes(parts: Parts, n: usize) -> Forward
-    ensures bytes_le_n { result.bytes ≤ n }
-    ensures by_index { (start : ℕ) (memory bs : List ℕ) → length bs ≡ result.bytes → parts_answers.taken result.parts memory ≡ parts_rules.take_bytes start (parts_answers.taken parts memory) bs }
-{
-    let head = parts.head;
-    let taken = parts.taken;
-    let outcome = parts.outcome;
-    if wants(&head, taken) {
-        if fine(outcome) {
-            return Forward { parts, bytes: 0 };
+    // Bytes that are counted only, behind a refused write or sample; and bytes that are not wanted, not even counted. How many they are, of n.
+    fn count_bytes(&mut self, n: usize) -> usize
+        ensures bytes_le_n { result ≤ n }
+        ensures by_index { (start : ℕ) (memory bs : List ℕ) → length bs ≡ result → parts_answers.taken self.new memory ≡ parts_rules.take_bytes start (parts_answers.taken self.old memory) bs }
+    {
+        if !self.wants() {
+            return n;
         }
-        if taken < header_length(&head) {
-            return Forward { parts, bytes: 0 };
+        if self.outcome.is_ok() {
+            return 0;
         }
-        let whole = whole(&head);
-        let bytes = fewer(n, whole + 1 - taken);
-        let item = parts.item;
-        let device = parts.device;
-        let passed = taken + bytes;
-        let after = Parts {
-            head,
-            taken: passed,
-            item,
-            device,
-            outcome,
-        };
-        return Forward {
-            parts: after,
-            bytes,
-        };
-    }
-    Forward { parts, bytes: n }
-}
-
-// Some bytes of a part, from a byte on: at least one.
-fn take_some(parts: Parts, bytes: &[u8], at: usize, memory: &mut [u8], start: usize) -> Forward
-    requires { at < length bytes.now }
-    ensures bytes_nonzero { (0 < result.bytes) × (at + result.bytes ≤ length bytes.now) }
-    ensures memory_after { parts_answers.taken result.parts memory.new ≡ parts_rules.take_bytes start (parts_answers.taken parts memory.old) (take result.bytes (drop at bytes.now)) }
-{
-    let ran = take_samples(parts, bytes, at, memory, start);
-    let p = ran.parts;
-    if ran.bytes == 0 {
-        let counted = count_bytes(p, bytes.len() - at);
-        let q = counted.parts;
-        if counted.bytes == 0 {
-            let after = take_byte(q, bytes[at], memory, start);
-            return Forward {
-                parts: after,
-                bytes: 1,
-            };
+        if self.taken < header_length(&self.head) {
+            return 0;
         }
-        return counted;
+        let bytes = n.min(self.whole() + 1 - self.taken);
+        self.taken += bytes;
+        bytes
     }
-    ran
-}
 
-// The next bytes of the file, over the memory from the start byte on. No refusal of the file is answered. Memory and start are the same at each call: the memory is what the last one left, and nobody else
-// writes it.
-pub fn take(parts: Parts, bytes: &[u8], memory: &mut [u8], start: usize) -> Parts
-    ensures { parts_answers.taken result memory.new ≡ parts_rules.take_bytes start (parts_answers.taken parts memory.old) bytes.now }
-{
-    let mut p = parts;
-    let mut at = 0;
-    while at < bytes.len() {
-        let next = take_some(p, bytes, at, memory, start);
-        p = next.parts;
-        at += next.bytes;
+    // Some bytes of a part: how many, at least one.
+    fn take_some(&mut self, bytes: &[u8], memory: &mut [u8], start: usize) -> usize
+        requires { 0 < length bytes.now }
+        ensures bytes_nonzero { (0 < result) × (result ≤ length bytes.now) }
+        ensures memory_after { parts_answers.taken self.new memory.new ≡ parts_rules.take_bytes start (parts_answers.taken self.old memory.old) (take result bytes.now) }
+    {
+        let ran = self.take_samples(bytes, memory, start);
+        if ran != 0 {
+            return ran;
+        }
+        let counted = self.count_bytes(bytes.len());
+        if counted != 0 {
+            return counted;
+        }
+        self.take_byte(bytes[0], memory, start);
+        1
     }
-    p
-}
 
-// A refused file: no device.
-fn refused(outcome: Outcome) -> Changed
-    ensures { (number result.outcome ≡ number outcome) × (result.device ≡ register_rules.no_device) }
-{
-    Changed {
-        device: device::no_device(),
-        outcome,
+    // The next bytes of the file, over the memory from the start byte on. No refusal of the file is answered. Memory and start are the same at each call: the memory is what the last
+    // one left, and nobody else writes it.
+    pub fn take(&mut self, bytes: &[u8], memory: &mut [u8], start: usize)
+        ensures { parts_answers.taken self.new memory.new ≡ parts_rules.take_bytes start (parts_answers.taken self.old memory.old) bytes.now }
+    {
+        let mut rest = bytes;
+        while !rest.is_empty() {
+            let n = self.take_some(rest, memory, start);
+            rest = &rest[n..];
+        }
     }
-}
 
-// The end of the file: the form checks 13, 10, 11, 13, 12, 13, the first refused write's or sample's number, 9; or the device after the file. Memory and start are those of the calls of `take`.
-pub fn end(parts: Parts, memory: &[u8], start: usize) -> Changed
-    ensures { device_answers.changed result ≡ parts_rules.ended (parts_answers.state parts) memory.now start }
-{
-    let head = parts.head;
-    let form = form_of(&head, parts.taken);
-    let Outcome::Accepted = form else {
-        return refused(form);
-    };
-    let outcome = parts.outcome;
-    let Outcome::Accepted = outcome else {
-        return refused(outcome);
-    };
-    let device = parts.device;
-    if memory.len() < start {
-        return refused(Outcome::Refused(Refusal::StartBeyond));
-    }
-    Changed {
-        device,
-        outcome: Outcome::Accepted,
+    // The end of the file: the form checks 13, 10, 11, 13, 12, 13, the first refused write's or sample's number, 9, without a device; or the device after the file. Memory and start are
+    // those of the calls of `take`.
+    #[tactic(auto, using(refusals::proofs::Numbered::never_zero), unfolding(file_rules::specs::Parts::ended, file_rules::specs::Parts::end_refusal))]
+    pub fn end(&self, memory: &[u8], start: usize) -> Result<Device, Refusal>
+        ensures { device_answers.changed register_rules.no_device result ≡ parts_rules.ended (parts_answers.state self.now) memory.now start }
+    {
+        form_of(&self.head, self.taken)?;
+        self.outcome?;
+        if memory.len() < start {
+            return Err(Refusal::StartBeyond);
+        }
+        Ok(self.device)
     }
 }

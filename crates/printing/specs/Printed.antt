@@ -1,8 +1,10 @@
 -- What the frame printer prints (document 01, "The frame printer"): from a file's bytes to the bytes of a text in lines, each ended by a newline.
-use Rattle.std.specs.Prelude.{cond, ℕ, zero, suc, ◌*◌, eqb, get_or, replicate}
+use Rattle.std.specs.Prelude.{Result, Ok, Err, cond, ℕ, zero, suc, ◌*◌, eqb, get_or, replicate}
 use mathlib.Core.List.{List, [], ◌∷◌, ◌++◌, flatten}
 use Rattle.output.specs.Output.{word_at}
+use Rattle.refusals.specs.declared.Refusal.{Refusal}
 use Rattle.rules.specs.declared.Device.{Device}
+use Rattle.rules.specs.RegisterCalls.{no_device}
 use Rattle.file_rules.specs.File.{run_file}
 use Rattle.text.specs.Text.{ascii, decimal, hex}
 
@@ -36,6 +38,11 @@ report d memory =
 -- A refusal prints one line. Otherwise the report.
 unfoldable pub lines : ℕ → Device → List ℕ → List (List ℕ)
 lines number d memory = cond (eqb number 0) (report d memory) (count_line (ascii "refused ") number ∷ [])
+
+-- The device that a run has left: none where it was refused.
+abbrev pub device_left : Result Device Refusal → Device
+device_left (Ok d) = d
+device_left (Err e) = no_device
 
 -- All of it: the lines one after the other.
 unfoldable pub printed : ℕ → Device → List ℕ → List ℕ

@@ -3,7 +3,7 @@
 use Prim.Native.Nat.{ℕ, ◌+◌, ◌≤◌, min}
 use mathlib.Core.Path.{◌≡◌, refl, sym, ap}
 use mathlib.Core.Bool.{Bool}
-use mathlib.Core.Option.{Option, none, some}
+use Rattle.std.specs.Prelude.{Option, None, Some}
 use mathlib.Core.List.{List, [], ◌∷◌, ◌++◌, append_assoc, append-nil}
 use native.Mathlib.Omega.{arith}
 use lib.ListN.{length, length-append}
@@ -19,8 +19,8 @@ module _ {A : Type 0} where
   words_cons : (g : Bool) (w : Option A) (xs ys : List (Input A)) → words (xs ++ ys) ≡ words xs ++ words ys →
       let x : Input A = record { grant = g; word = w } in words (x ∷ (xs ++ ys)) ≡ words (x ∷ xs) ++ words ys
   unfolding words
-  words_cons g none xs ys e = e
-  words_cons g (some v) xs ys e = ap {B = List A} (λ ws. v ∷ ws) e
+  words_cons g None xs ys e = e
+  words_cons g (Some v) xs ys e = ap {B = List A} (λ ws. v ∷ ws) e
 
   pub words_append : (xs ys : List (Input A)) → words (xs ++ ys) ≡ words xs ++ words ys
   unfolding words

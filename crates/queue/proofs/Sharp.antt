@@ -3,7 +3,7 @@
 use Prim.Native.Nat.{ℕ, zero, suc, ◌+◌, ◌*◌, ◌-◌, ◌%◌, ◌≤◌, ◌<◌, min}
 use mathlib.Core.Path.{◌≡◌, refl, ap}
 use mathlib.Core.Bool.{Bool, true, false, cond}
-use mathlib.Core.Option.{none, some}
+use Rattle.std.specs.Prelude.{None, Some}
 use mathlib.Core.List.{List, [], ◌∷◌}
 use native.Mathlib.Nat.{add-zero, add-suc, zero-add, suc-add, zero-mul, suc-mul, add-mod_right, mod-eq_of_lt, mul-le-mul_left, zero-min, min-zero, suc-min-suc, sub-zero, zero-sub, suc-sub-suc}
 use native.Mathlib.Numerals.{add-one}
@@ -59,7 +59,7 @@ module _ (p g : ℕ) (few : g ≤ p) where
 module _ (f h : ℕ → Bool) where
   inputs : ℕ → ℕ → List (Input ℕ)
   inputs i zero = []
-  inputs i (suc n) = record { grant = f i; word = cond (h i) (some i) none } ∷ inputs (suc i) n
+  inputs i (suc n) = record { grant = f i; word = cond (h i) (Some i) None } ∷ inputs (suc i) n
 
   inputs_grants : (i n : ℕ) → grants (inputs i n) ≡ count f i n
   unfolding inputs grants count
@@ -72,7 +72,7 @@ module _ (f h : ℕ → Bool) where
   inputs_words i (suc n) = go (h i) (inputs_words (suc i) n)
     where
       go : (b : Bool) → length (words (inputs (suc i) n)) ≡ count h (suc i) n
-          → length (words (record { grant = f i; word = cond b (some i) none } ∷ inputs (suc i) n)) ≡ cond b 1 0 + count h (suc i) n
+          → length (words (record { grant = f i; word = cond b (Some i) None } ∷ inputs (suc i) n)) ≡ cond b 1 0 + count h (suc i) n
       go true e = omega arith
       go false e = omega arith
 

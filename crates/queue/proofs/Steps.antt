@@ -3,7 +3,7 @@
 use Prim.Native.Nat.{ℕ, ◌+◌, ◌≤◌, ◌<◌, min}
 use mathlib.Core.Path.{◌≡◌, refl, sym}
 use mathlib.Core.Bool.{Bool, true, false, cond}
-use mathlib.Core.Option.{Option, none, some}
+use Rattle.std.specs.Prelude.{Option, None, Some}
 use mathlib.Core.List.{List, [], ◌∷◌, ◌++◌, append_assoc, append-nil}
 use native.Mathlib.Omega.{arith}
 use lib.ListN.{length, length-append}
@@ -48,7 +48,7 @@ pub record Arrives {A : Type 0} (d : ℕ) (x : Input A) (q r : Queue A) : Type 0
 arrives_by : {A : Type 0} (d : ℕ) (g : Bool) (w : Option A) (q : Queue A) →
     let x : Input A = record { grant = g; word = w } in Arrives d x q (arrive d x q)
 unfolding arrive words
-arrives_by d g none q =
+arrives_by d g None q =
     record {
       left = refl;
       keeps = omega arith;
@@ -58,10 +58,10 @@ arrives_by d g none q =
       room = λ h. refl;
       order = λ e. sym (append-nil _);
     }
-arrives_by {A} d g (some v) q = go (ltb (length q.held) d) refl
+arrives_by {A} d g (Some v) q = go (ltb (length q.held) d) refl
   where
     x : Input A
-    x = record { grant = g; word = some v }
+    x = record { grant = g; word = Some v }
 
     taken : Queue A
     taken = record { left = q.left; held = q.held ++ v ∷ []; lost = q.lost }

@@ -2,7 +2,7 @@
 -- By induction on the samples: each word that comes finds room, so none is lost, and what has come has been taken in.
 use Prim.Native.Nat.{ℕ, suc, ◌+◌, ◌*◌, ◌-◌, ◌≤◌, ◌<◌}
 use mathlib.Core.Path.{◌≡◌, refl, sym, ap, subst}
-use mathlib.Core.Option.{some}
+use Rattle.std.specs.Prelude.{Some}
 use mathlib.Core.List.{List, [], ◌∷◌, ◌++◌, append_assoc, append-nil}
 use native.Mathlib.Nat.{one-le-mul}
 use native.Mathlib.Decide.{dec_le}
@@ -58,13 +58,13 @@ module _ {A : Type 0} (d s : ℕ) where
         let step : (after d (ys ++ x ∷ [])).lost ≡ 0 = rw from_append (omega arith) in
         rw append_snoc at (none_lost (ys ++ x ∷ []) zs rest (rw append_snoc g) (rw append_snoc p) step)
 
-one_word : {A : Type 0} (x : Input A) (v : A) → x.word ≡ some v → 1 ≤ length (words (x ∷ []))
+one_word : {A : Type 0} (x : Input A) (v : A) → x.word ≡ Some v → 1 ≤ length (words (x ∷ []))
 unfolding words
 one_word x v e = rw e (omega arith)
 
 -- A word that comes finds room: after what leaves at its sample, fewer than d words are held.
 pub finds_room : {A : Type 0} (d s : ℕ) (ys : List (Input A)) (x : Input A) (zs : List (Input A)) (v : A) →
-    1 ≤ d → 1 ≤ s → Granted d s (ys ++ x ∷ zs) → Spaced s (ys ++ x ∷ zs) → x.word ≡ some v →
+    1 ≤ d → 1 ≤ s → Granted d s (ys ++ x ∷ zs) → Spaced s (ys ++ x ∷ zs) → x.word ≡ Some v →
     length (leave x (after d ys)).held < d
 finds_room d s ys x zs v d1 s1 g p e = finds d s d1 s1 ys zs x (one_word x v e) g p
 

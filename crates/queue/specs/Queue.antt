@@ -1,7 +1,6 @@
 -- A queue of depth d: at each sample a grant lets the oldest word leave, and then at most one word arrives.
 -- Its two premises, which speak of windows of the list of inputs, and what they promise (`Served`). Assumes nothing.
-use Rattle.std.specs.Prelude.{ℕ, ◌+◌, ◌*◌, ◌≤◌, ◌≡◌, Bool, cond, List, [], ◌∷◌, ◌++◌, length, take, drop, ltb}
-use Rattle.std.proofs.Math.Option.{Option, none, some}
+use Rattle.std.specs.Prelude.{ℕ, ◌+◌, ◌*◌, ◌≤◌, ◌≡◌, Bool, cond, List, [], ◌∷◌, ◌++◌, length, take, drop, ltb, Option, None, Some}
 
 -- One sample: whether the bus grants, and the word that arrives, if one does.
 pub record Input (A : Type 0) : Type 0 where
@@ -27,8 +26,8 @@ module _ {A : Type 0} where
   unfoldable pub arrive : ℕ → Input A → Queue A → Queue A
   arrive d x q =
       elim x.word [
-        | none ↦ q
-        | some v ↦
+        | None ↦ q
+        | Some v ↦
             cond (ltb (length q.held) d)
             (record { left = q.left; held = q.held ++ v ∷ []; lost = q.lost })
             (record { left = q.left; held = q.held; lost = q.lost + 1 })
@@ -55,7 +54,7 @@ module _ {A : Type 0} where
   -- The words that arrive, in order.
   unfoldable pub words : List (Input A) → List A
   words [] = []
-  words (x ∷ xs) = elim x.word [ none ↦ words xs | some v ↦ v ∷ words xs ]
+  words (x ∷ xs) = elim x.word [ None ↦ words xs | Some v ↦ v ∷ words xs ]
 
   -- Each d * s consecutive samples hold at least d grants.
   abbrev pub Granted : ℕ → ℕ → List (Input A) → Type 0

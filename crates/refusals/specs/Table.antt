@@ -1,9 +1,8 @@
 -- The refusal numbers (document 01, "Refusal numbers"), each given exactly when its row says.
-use Rattle.std.specs.Prelude.{ℕ}
+use Rattle.std.specs.Prelude.{ℕ, Result, Ok, Err}
 use Rattle.refusals.specs.declared.Refusal.{Refusal}
 use Rattle.refusals.specs.declared.Refusal.TheVariants.{Malformed, NoRegister, AccessKind, ReservedBit, Unsupported, Enabled, SampleBits, SampleTotal, StartBeyond, Mark, Version, SampleCount, Length, WriteCount, Room, BufferMode, NoSample, Depth, PictureSize, PictureContent, SheetLimit}
-use Rattle.refusals.specs.declared.Outcome.{Outcome}
-use Rattle.refusals.specs.declared.Outcome.TheVariants.{Accepted, Refused}
+use Rattle.refusals.specs.Refusals.{Answer, refused, answered}
 
 abbrev pub number : Refusal → ℕ
 -- the device is malformed
@@ -50,6 +49,11 @@ number PictureContent = 20
 number SheetLimit = 21
 
 -- 0 of an accepted call, else the refusal's number.
-abbrev pub outcome : Outcome → ℕ
-outcome Accepted = 0
-outcome (Refused e) = number e
+abbrev pub outcome : {A : Type 0} → Result A Refusal → ℕ
+outcome (Ok a) = 0
+outcome (Err e) = number e
+
+-- The value of an accepted call, else the refusal's number.
+abbrev pub answer_of : {A : Type 0} → Result A Refusal → Answer A
+answer_of (Ok a) = answered a
+answer_of (Err e) = refused (number e)

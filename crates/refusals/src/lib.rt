@@ -1,4 +1,4 @@
-// The refusal table: why a call is refused, with the paper's number of each (specs/Table), and the answer of a call that gives no value. How a
+// The refusal table: why a call is refused, with the paper's number of each (specs/Table). A call that may be refused gives a `Result` with a `Refusal` as its error. How a
 // call's refusal is found, its tests in order and the number of the first that holds, is specs/Refusals.
 #![tactic(auto)]
 
@@ -6,7 +6,7 @@ ghost use Rattle.std.specs.Prelude.{◌≡◌};
 ghost use Rattle.refusals.specs.Table as table;
 
 // Why a call is refused, in the paper's order.
-#[derive(Clone, Copy)]
+#[derive(Clone, Copy, Debug, PartialEq, Eq)]
 pub enum Refusal {
     Malformed,
     NoRegister,
@@ -62,9 +62,12 @@ impl Refusal {
     }
 }
 
-// The answer of a call that gives no value: whether it was accepted.
-#[derive(Clone, Copy)]
-pub enum Outcome {
-    Accepted,
-    Refused(Refusal),
+// The number of a call's answer, for callers in C: 0 where it is accepted.
+pub fn number_of(answer: Result<(), Refusal>) -> u32
+    ensures { result ≡ table.outcome answer }
+{
+    match answer {
+        Ok(()) => 0,
+        Err(refusal) => refusal.number(),
+    }
 }

@@ -18,14 +18,13 @@ use Rattle.registers.specs.declared.Register.{Register}
 use Rattle.registers.specs.declared.Register.TheVariants.{Control, Status, RawStatus, InterruptEnable, MaskedStatus, InterruptClear, EmbeddedCode, EmbeddedUnmask, WindowStart, WindowSize}
 use Rattle.registers.specs.declared.Access.{Access}
 use Rattle.registers.specs.declared.Access.TheVariants.{ReadWrite, ReadOnly, WriteOnly}
-use Rattle.registers.specs.declared.Found.{Found}
-use Rattle.registers.specs.declared.Found.TheVariants.{At, Nothing}
+use Rattle.std.specs.Prelude.{Option, Some, None}
 
 -- A register of the map: its offset, what stands there, how it is accessed, its reserved bits as a mask, whether it is CR, and whether it is fixed while ENABLE is 1.
 pub record Row : Type 0 where
   pub register : Register
   pub place : ℕ
-  pub found : Found
+  pub found : Option Register
   pub access : Access
   pub reserved : ℕ
   pub control : Bool
@@ -33,7 +32,7 @@ pub record Row : Type 0 where
 
 abbrev row : Register → ℕ → Access → ℕ → Bool → Bool → Row
 row r place access reserved control fixed =
-    record { register = r; place = place; found = At r; access = access; reserved = reserved; control = control; fixed = fixed }
+    record { register = r; place = place; found = Some r; access = access; reserved = reserved; control = control; fixed = fixed }
 
 -- The same by the definitions.
 abbrev defined : Row → Row
@@ -114,7 +113,7 @@ values =
 
 pub register_sheet :
     (map defined the_map ≡ the_map)
-    × (map register_at (0x01 ∷ 0x26 ∷ 0x28 ∷ 0x100 ∷ []) ≡ Nothing ∷ Nothing ∷ Nothing ∷ Nothing ∷ [])
+    × (map register_at (0x01 ∷ 0x26 ∷ 0x28 ∷ 0x100 ∷ []) ≡ None ∷ None ∷ None ∷ None ∷ [])
     × (map (reserved_set Control) (0x8000 ∷ 0x1000 ∷ 0x10000 ∷ 0x4FFF ∷ []) ≡ true ∷ true ∷ true ∷ false ∷ [])
     × (map flags (0x1 ∷ 0x2 ∷ 0x4 ∷ 0x8 ∷ 0x10 ∷ 0x20 ∷ 0x40 ∷ 0x80 ∷ 0x4000 ∷ []) ≡ map only (0 ∷ 1 ∷ 2 ∷ 3 ∷ 4 ∷ 5 ∷ 6 ∷ 7 ∷ 8 ∷ []))
     × (fcrc 0x0600 ∷ edm 0x0600 ∷ fcrc 0xFFFFFCFF ∷ edm 0xFFFFF3FF ∷ [] ≡ 2 ∷ 1 ∷ 0 ∷ 0 ∷ [])

@@ -1,13 +1,11 @@
 -- The register map: which registers there are, where, how they may be accessed, and which of their bits are reserved
 -- (document 01, "Registers"; 004, 32.5 and table 271).
-use Rattle.std.specs.Prelude.{Bool, true, false, cond, List, [], ◌∷◌, ℕ, eqb}
+use Rattle.std.specs.Prelude.{Bool, true, false, cond, List, [], ◌∷◌, ℕ, eqb, Option, Some, None}
 use Rattle.bits.specs.Ranges.{Range, any_set}
 use Rattle.registers.specs.declared.Register.{Register}
 use Rattle.registers.specs.declared.Register.TheVariants.{Control, Status, RawStatus, InterruptEnable, MaskedStatus, InterruptClear, EmbeddedCode, EmbeddedUnmask, WindowStart, WindowSize}
 use Rattle.registers.specs.declared.Access.{Access}
 use Rattle.registers.specs.declared.Access.TheVariants.{ReadWrite, ReadOnly, WriteOnly}
-use Rattle.registers.specs.declared.Found.{Found}
-use Rattle.registers.specs.declared.Found.TheVariants.{At, Nothing}
 
 -- Offsets (004, "Address offset" of 32.5.1 to 32.5.10).
 abbrev pub offset : Register → ℕ
@@ -27,12 +25,12 @@ abbrev pub every : List Register
 every = Control ∷ Status ∷ RawStatus ∷ InterruptEnable ∷ MaskedStatus ∷ InterruptClear ∷ EmbeddedCode ∷ EmbeddedUnmask ∷ WindowStart ∷ WindowSize ∷ []
 
 -- The first of some registers that has an offset.
-abbrev pub among : List Register → ℕ → Found
-among [] o = Nothing
-among (r ∷ rs) o = cond (eqb o (offset r)) (At r) (among rs o)
+abbrev pub among : List Register → ℕ → Option Register
+among [] o = None
+among (r ∷ rs) o = cond (eqb o (offset r)) (Some r) (among rs o)
 
 -- The register at an offset, if there is one.
-unfoldable pub register_at : ℕ → Found
+unfoldable pub register_at : ℕ → Option Register
 register_at o = among every o
 
 -- Access kinds, column "Access".

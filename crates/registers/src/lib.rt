@@ -2,7 +2,7 @@
 #![tactic(auto)]
 
 // The kinds of register.
-#[derive(Clone, Copy)]
+#[derive(Clone, Copy, Debug, PartialEq, Eq)]
 pub enum Register {
     Control,
     Status,
@@ -17,18 +17,11 @@ pub enum Register {
 }
 
 // How a register may be accessed.
-#[derive(Clone, Copy)]
+#[derive(Clone, Copy, Debug, PartialEq, Eq)]
 pub enum Access {
     ReadWrite,
     ReadOnly,
     WriteOnly,
-}
-
-// What stands at an offset.
-#[derive(Clone, Copy)]
-pub enum Found {
-    At(Register),
-    Nothing,
 }
 
 // Offsets, by the manual's names.

@@ -8,7 +8,7 @@
 -- and what only the state shows.
 use mathlib.Core.Bool.{Bool, true, false, cond}
 use mathlib.Core.List.{List, [], ◌∷◌, ◌++◌, map}
-use mathlib.Core.Option.{Option, none, some}
+use Rattle.std.specs.Prelude.{Option, None, Some}
 use mathlib.Core.Path.{◌≡◌, refl}
 use Prim.Native.Nat.{ℕ, zero, suc, ◌+◌, ◌-◌}
 use lib.Dec.{eqb}
@@ -19,7 +19,9 @@ use Rattle.samples.specs.Samples.{pixel_data}
 use Rattle.refusals.specs.Refusals as refusals
 use Rattle.output.specs.declared.Output.{Output}
 use Rattle.numbers.specs.Numbers.{number, number_at}
-use Rattle.output.specs.Output.{slot_count, usual_depth, OutputState, word_at, Packed, nothing, completed, lost}
+use Rattle.output.specs.Output.{slot_count, usual_depth, OutputState, word_at}
+use Rattle.output.specs.declared.Packing.{Packing as Packed}
+use Rattle.output.specs.declared.Packing.TheVariants.{Nothing as nothing, Completed as completed, Lost as lost}
 use Rattle.rules.specs.declared.Syncs.{Syncs}
 use Rattle.rules.specs.declared.Frame.{Frame}
 use Rattle.rules.specs.declared.Frame.TheVariants.{Closed, Open}
@@ -644,19 +646,19 @@ by_call =
     log fresh (replicate 13 0xEE)
     (a_write CR 0x48E3 ▸ done ∷
     a_run 3 (edges (blank ∷ 1 ∷ []) ++ 2 ∷ []) ▸ done ∷
-    a_sample 3 0x10002 ▸ sampled none (completed 0x00020001) ∷
-    a_sample 3 0x20003 ▸ sampled (some 3) nothing ∷
-    a_sample 3 0x10003 ▸ sampled none nothing ∷
-    a_sample 3 0x00004 ▸ sampled none nothing ∷
-    a_sample 3 0x10004 ▸ sampled none (completed 0x00040003) ∷
-    a_sample 3 0x20005 ▸ sampled (some 7) nothing ∷
+    a_sample 3 0x10002 ▸ sampled None (completed 0x00020001) ∷
+    a_sample 3 0x20003 ▸ sampled (Some 3) nothing ∷
+    a_sample 3 0x10003 ▸ sampled None nothing ∷
+    a_sample 3 0x00004 ▸ sampled None nothing ∷
+    a_sample 3 0x10004 ▸ sampled None (completed 0x00040003) ∷
+    a_sample 3 0x20005 ▸ sampled (Some 7) nothing ∷
     the_memory ▸ holds (0xEE ∷ 0xEE ∷ 0xEE ∷ 1 ∷ 0 ∷ 2 ∷ 0 ∷ 3 ∷ 0 ∷ 4 ∷ 0 ∷ 0xEE ∷ 0xEE ∷ []) ∷
     a_run 3 (0x10005 ∷ 0x00006 ∷ 0x10006 ∷ []) ▸ done ∷
-    a_sample 3 0x20007 ▸ sampled none nothing ∷
+    a_sample 3 0x20007 ▸ sampled None nothing ∷
     the_counts ▸ counts 15 3 2 0 1 2 ∷
     a_rearming ▸ done ∷
     the_counts ▸ counts 15 3 2 0 1 0 ∷
-    a_sample 3 0x20007 ▸ sampled (some 3) nothing ∷
+    a_sample 3 0x20007 ▸ sampled (Some 3) nothing ∷
     the_memory ▸ holds (0xEE ∷ 0xEE ∷ 0xEE ∷ 5 ∷ 0 ∷ 6 ∷ 0 ∷ 3 ∷ 0 ∷ 4 ∷ 0 ∷ 0xEE ∷ 0xEE ∷ []) ∷
     the_counts ▸ counts 16 3 3 0 0 1 ∷
     []) ∷
@@ -664,13 +666,13 @@ by_call =
     log fresh []
     (a_write CR 0x48E3 ▸ done ∷
     a_run 0 (nine ++ 10 ∷ []) ▸ done ∷
-    a_sample 0 0x1000A ▸ sampled none lost ∷
+    a_sample 0 0x1000A ▸ sampled None lost ∷
     the_counts ▸ counts 22 5 0 5 0 0 ∷
     []) ∷
     log fresh (replicate 4 0)
     (a_write CR 0x48E3 ▸ done ∷
     a_run 0 (nine ++ 10 ∷ []) ▸ done ∷
-    a_sample 0 0x3000A ▸ sampled (some 0) (completed 0x000A0009) ∷
+    a_sample 0 0x3000A ▸ sampled (Some 0) (completed 0x000A0009) ∷
     the_counts ▸ counts 22 5 1 0 4 1 ∷
     []) ∷
     -- the sheet's last line: of 8 bytes, start 4 has room for one word, 5 and 8 for none, 9 is refused 9; an empty trace changes nothing. Word 1 fits bytes 4 to 7
@@ -703,7 +705,7 @@ by_call =
     -- refusal 8: there is one sample left; 7 is before 8
     log (idle (words_are no_slots 0 0 4294967294 0 0 0)) []
     (a_run 0 (0 ∷ 0 ∷ []) ▸ refused 8 ∷
-    a_sample 0 0 ▸ sampled none nothing ∷
+    a_sample 0 0 ▸ sampled None nothing ∷
     a_sample 0 0 ▸ refused 8 ∷
     a_sample 0 0x40000 ▸ refused 7 ∷
     a_run 0 [] ▸ done ∷

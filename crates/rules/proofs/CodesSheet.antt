@@ -10,7 +10,7 @@
 -- and what only the state shows: place, rate counter, partial word, bytes that wait.
 use mathlib.Core.Bool.{Bool, true, false}
 use mathlib.Core.List.{List, [], ◌∷◌, ◌++◌, map}
-use mathlib.Core.Option.{none, some}
+use Rattle.std.specs.Prelude.{None, Some}
 use mathlib.Core.Path.{◌≡◌, refl}
 use Prim.Native.Nat.{ℕ, ◌+◌}
 use lib.ListN.{replicate}
@@ -26,7 +26,8 @@ use Rattle.rules.specs.declared.Device.{Device}
 use Rattle.rules.specs.State.{device, capture_of, fresh_of, fresh, with_cr, with_escr, with_esur, with_syncs, with_rate, with_waiting}
 use Rattle.rules.specs.RegisterCalls.{write}
 use Rattle.rules.specs.WellFormed.{malformed}
-use Rattle.output.specs.Output.{Packed, nothing, completed, lost}
+use Rattle.output.specs.declared.Packing.{Packing as Packed}
+use Rattle.output.specs.declared.Packing.TheVariants.{Nothing as nothing, Completed as completed, Lost as lost}
 use Rattle.rules.specs.Run.{run}
 use Rattle.rules.proofs.EveryRule.{every_rule}
 use Rattle.rules.proofs.BenchSheet.{◌≔◌, CR, SR, RIS, IER, ICR, CWSTRT, CWSIZE, edge, edges, blank, Entry, ◌▸◌, a_write, a_read, a_run, a_sample, a_rearming, the_line, the_counts, the_memory, done, refused, reads, line, sampled, counts, holds, all_refused, Judged, well, ill, Log, log, told, told_by, played, words_are, no_slots, partial_is, frame_is, registered}
@@ -81,7 +82,7 @@ abbrev pub sends : List ℕ → ℕ → ℕ → List Entry
 sends bytes ris sr = a_run 0 (edges bytes) ▸ done ∷ shows ris sr
 
 abbrev pub byte : ℕ → Packed → List Entry
-byte x packed = a_sample 0 x ▸ sampled none nothing ∷ a_sample 0 (x + 0x10000) ▸ sampled none packed ∷ []
+byte x packed = a_sample 0 x ▸ sampled None nothing ∷ a_sample 0 (x + 0x10000) ▸ sampled None packed ∷ []
 
 -- A device with a CR after 8 samples, made by hand.
 abbrev pub coded_with : ℕ → (Capture → Capture) → Device
@@ -296,8 +297,8 @@ code_errors =
     the_counts ▸ counts 41 3 1 2 0 1 ∷ sends (FS ++ 0x21 ∷ 0x22 ∷ 0x23 ∷ []) 4 0 ++ byte 0x24 (completed 0x24232221) ++ lands_at 4 ∷
     the_memory ▸ holds (1 ∷ 2 ∷ 3 ∷ 4 ∷ 0x21 ∷ 0x22 ∷ 0x23 ∷ 0x24 ∷ []) ∷ []) ∷
     mode_2 4 0x4031
-    (sends (FS ++ 1 ∷ 2 ∷ 3 ∷ 4 ∷ 5 ∷ 6 ∷ 7 ∷ 8 ∷ 0xFF ∷ 0 ∷ 0 ∷ []) 0 4 ++ a_sample 0 0x000A1 ▸ sampled none nothing ∷
-    a_sample 0 0x300A1 ▸ sampled (some 0) nothing ∷ the_counts ▸ counts 32 2 1 1 0 1 ∷ []) ∷
+    (sends (FS ++ 1 ∷ 2 ∷ 3 ∷ 4 ∷ 5 ∷ 6 ∷ 7 ∷ 8 ∷ 0xFF ∷ 0 ∷ 0 ∷ []) 0 4 ++ a_sample 0 0x000A1 ▸ sampled None nothing ∷
+    a_sample 0 0x300A1 ▸ sampled (Some 0) nothing ∷ the_counts ▸ counts 32 2 1 1 0 1 ∷ []) ∷
     -- with CM 1 CAPTURE stays, and the next frame is the snapshot; the rate counter stays
     mode_2 4 0x4033
     (sends (FS ++ 1 ∷ FS) 4 3 ++ a_read CR ▸ reads 0x4033 ∷ sends (FS ++ 1 ∷ 2 ∷ 3 ∷ []) 4 0 ++ byte 4 (completed 0x04030201) ++
@@ -402,8 +403,8 @@ releases =
     mode_2 1 0x4031 (sends (FS ++ 1 ∷ 2 ∷ 3 ∷ 4 ∷ 5 ∷ 6 ∷ 0xFF ∷ 0 ∷ []) 0 4 ++ byte 0xFF lost ++ shows 2 3 ++ sends (0 ∷ 0 ∷ 0xA1 ∷ []) 2 0) ∷
     -- a grant at that edge makes room; of a snapshot CAPTURE becomes 0
     mode_2 1 0x4031
-    (sends (FS ++ 1 ∷ 2 ∷ 3 ∷ 4 ∷ 5 ∷ 6 ∷ 7 ∷ 0xFF ∷ []) 0 4 ++ a_sample 0 0x00008 ▸ sampled none nothing ∷
-    a_sample 0 0x30008 ▸ sampled (some 0) (completed 0xFF070605) ∷ sends (9 ∷ 0x0A ∷ []) 0 4 ++ the_counts ▸ counts 30 2 1 0 1 1 ∷ []) ∷
+    (sends (FS ++ 1 ∷ 2 ∷ 3 ∷ 4 ∷ 5 ∷ 6 ∷ 7 ∷ 0xFF ∷ []) 0 4 ++ a_sample 0 0x00008 ▸ sampled None nothing ∷
+    a_sample 0 0x30008 ▸ sampled (Some 0) (completed 0xFF070605) ∷ sends (9 ∷ 0x0A ∷ []) 0 4 ++ the_counts ▸ counts 30 2 1 0 1 1 ∷ []) ∷
     mode_2 1 0x4033 (sends (FS ++ 1 ∷ 2 ∷ 3 ∷ 4 ∷ 5 ∷ 6 ∷ 7 ∷ 0xFF ∷ []) 0 4 ++ byte 8 lost ++ shows 2 3 ++ a_read CR ▸ reads 0x4032 ∷ []) ∷
     -- re-arming leaves them: between FF 00 00 and XY, and between an FF and what releases it
     mode_2 4 0x4031

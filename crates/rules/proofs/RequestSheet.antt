@@ -6,11 +6,13 @@
 -- W6, codes in the data, has a sheet of its own, `CodesSheet`.
 use mathlib.Core.Bool.{true, false}
 use mathlib.Core.List.{List, [], ◌∷◌, ◌++◌, map}
-use mathlib.Core.Option.{none, some}
+use Rattle.std.specs.Prelude.{None, Some}
 use mathlib.Core.Path.{◌≡◌, refl}
 use Prim.Native.Nat.{ℕ, zero, suc, ◌+◌, ◌-◌}
 use lib.ListN.{length, replicate}
-use Rattle.output.specs.Output.{slot_count, Packed, nothing, completed, lost}
+use Rattle.output.specs.Output.{slot_count}
+use Rattle.output.specs.declared.Packing.{Packing as Packed}
+use Rattle.output.specs.declared.Packing.TheVariants.{Nothing as nothing, Completed as completed, Lost as lost}
 use Rattle.codes.specs.declared.Waiting.TheVariants.{Zero}
 use Rattle.rules.specs.declared.Frame.{Frame}
 use Rattle.rules.specs.declared.Frame.TheVariants.{Closed, Open}
@@ -197,10 +199,10 @@ compressing depth cr entries = log (fresh_of depth) (replicate 8 0xEE) (a_write 
 
 -- Both syncs blank: nothing before the working edge; what became of a word at it, and RIS. A word lands at a byte, while both blank.
 abbrev pub ends_with : Packed → ℕ → List Entry
-ends_with packed ris = a_sample 0 0x0C000 ▸ sampled none nothing ∷ a_sample 0 0x1C000 ▸ sampled none packed ∷ a_read RIS ▸ reads ris ∷ []
+ends_with packed ris = a_sample 0 0x0C000 ▸ sampled None nothing ∷ a_sample 0 0x1C000 ▸ sampled None packed ∷ a_read RIS ▸ reads ris ∷ []
 
 abbrev pub lands_at : ℕ → Entry
-lands_at byte = a_sample 0 0x2C000 ▸ sampled (some byte) nothing
+lands_at byte = a_sample 0 0x2C000 ▸ sampled (Some byte) nothing
 
 unfoldable pub compressed : List Log
 compressed =
@@ -236,13 +238,13 @@ compressed =
     leads_to (edges (0x4098 ∷ 0x33 ∷ [])) 0 ++
     leads_to (edge 0x4097) 0x10 ++
     the_counts ▸ counts 14 0 0 0 0 0 ∷
-    a_sample 0 0x00044 ▸ sampled none nothing ∷
-    a_sample 0 0x10044 ▸ sampled none (completed 0x44332211) ∷
+    a_sample 0 0x00044 ▸ sampled None nothing ∷
+    a_sample 0 0x10044 ▸ sampled None (completed 0x44332211) ∷
     []) ∷
     -- it marks them as its polarity says: with all polarities 0 a pin blanks at 0, and the clock falls at a working edge
     compressing 4 0x4009
     (a_run 0 (0x10000 ∷ 0x00000 ∷ 0x1C011 ∷ 0x0C011 ∷ 0x18099 ∷ 0x08099 ∷ 0x1C022 ∷ 0x0C022 ∷ 0x10000 ∷ []) ▸ done ∷
-    a_sample 0 0x00000 ▸ sampled none (completed 0x2211) ∷
+    a_sample 0 0x00000 ▸ sampled None (completed 0x2211) ∷
     a_read RIS ▸ reads 0x19 ∷
     the_counts ▸ counts 10 1 0 0 1 0 ∷
     []) ∷
@@ -313,8 +315,8 @@ compressed =
     compressing 4 0x40E9
     (leads_to (edges (blank ∷ 1 ∷ [])) 0x18 ++
     a_write ICR 0x1F ▸ done ∷
-    a_sample 0 0x08000 ▸ sampled none nothing ∷
-    a_sample 0 0x18000 ▸ sampled none (completed 1) ∷
+    a_sample 0 0x08000 ▸ sampled None nothing ∷
+    a_sample 0 0x18000 ▸ sampled None (completed 1) ∷
     a_read RIS ▸ reads 0x09 ∷
     []) ∷
     compressing 4 0x40E9 (leads_to (edges (blank ∷ 1 ∷ [])) 0x18 ++ a_write ICR 0x1F ▸ done ∷ ends_with (completed 1) 0x19) ∷
@@ -396,16 +398,16 @@ compressed =
     -- "completed by rule 9": a grant in the sample that ends the frame makes room, also at depth 1
     compressing 4 0x40E9
     (leads_to (edge blank ++ pixels_up 17 1) 0x18 ++
-    a_sample 0 0x0C000 ▸ sampled none nothing ∷
-    a_sample 0 0x3C000 ▸ sampled (some 0) (completed 17) ∷
+    a_sample 0 0x0C000 ▸ sampled None nothing ∷
+    a_sample 0 0x3C000 ▸ sampled (Some 0) (completed 17) ∷
     a_read RIS ▸ reads 0x19 ∷
     the_memory ▸ holds (1 ∷ 2 ∷ 3 ∷ 4 ∷ 0xEE ∷ 0xEE ∷ 0xEE ∷ 0xEE ∷ []) ∷
     the_counts ▸ counts 38 5 1 0 4 1 ∷
     []) ∷
     compressing 1 0x40E9
     (leads_to (edge blank ++ pixels_up 5 1) 0x18 ++
-    a_sample 0 0x0C000 ▸ sampled none nothing ∷
-    a_sample 0 0x3C000 ▸ sampled (some 0) (completed 5) ∷
+    a_sample 0 0x0C000 ▸ sampled None nothing ∷
+    a_sample 0 0x3C000 ▸ sampled (Some 0) (completed 5) ∷
     a_read RIS ▸ reads 0x19 ∷
     the_counts ▸ counts 14 2 1 0 1 1 ∷
     lands_at 4 ∷
@@ -415,12 +417,12 @@ compressed =
     -- "a padded word can come four samples after the one before", a full one or a padded one
     compressing 4 0x40E9
     (a_run 0 (edges (blank ∷ 1 ∷ 2 ∷ 3 ∷ []) ++ 4 ∷ []) ▸ done ∷
-    a_sample 0 0x10004 ▸ sampled none (completed 0x04030201) ∷
-    a_sample 0 0x00005 ▸ sampled none nothing ∷
-    a_sample 0 0x10005 ▸ sampled none nothing ∷
+    a_sample 0 0x10004 ▸ sampled None (completed 0x04030201) ∷
+    a_sample 0 0x00005 ▸ sampled None nothing ∷
+    a_sample 0 0x10005 ▸ sampled None nothing ∷
     ends_with (completed 5) 0x19 ++
-    a_sample 0 0x00006 ▸ sampled none nothing ∷
-    a_sample 0 0x10006 ▸ sampled none nothing ∷
+    a_sample 0 0x00006 ▸ sampled None nothing ∷
+    a_sample 0 0x10006 ▸ sampled None nothing ∷
     ends_with (completed 6) 0x19 ++
     the_counts ▸ counts 18 3 0 0 3 0 ∷
     []) ∷

@@ -1,9 +1,8 @@
 -- Rules 2 to 8 of one sample (document 01, "One sample"), over the capture state: no FIFO, no memory and no grant. A sample answers
 -- no word or one for rule 9, and whether FRAME is due after it. Each rule is a definition of its own, in the paper's order; the manual's section stands beside its number.
 -- With ESS 1 codes stand in place of the sync pins (W6): `Codes`. A sample whole: `Sample`.
-use Rattle.std.specs.Prelude.{Bool, false, cond, not, ◌&&◌, ◌||◌, ℕ, ◌+◌, ◌-◌, ◌%◌, eqb, ltb, leb}
+use Rattle.std.specs.Prelude.{Bool, false, cond, not, ◌&&◌, ◌||◌, ℕ, ◌+◌, ◌-◌, ◌%◌, eqb, ltb, leb, Option, None, Some}
 use Rattle.std.specs.Bool.{beq}
-use Rattle.std.proofs.Math.Option.{Option, none, some}
 use Rattle.registers.specs.Control.{capture, snapshot, crop, jpeg, pckpol, hspol, vspol, fcrc, edm, enable}
 use Rattle.samples.specs.Samples.{hsync_pin, vsync_pin, clock_pin}
 use Rattle.packing.specs.Packing.{per_word, joined, zero_filled}
@@ -24,7 +23,7 @@ pub record Captured : Type 0 where
   pub error : Bool
 
 unfoldable pub no_word : Capture → Captured
-no_word s = record { state = s; word = none; due = false; error = false }
+no_word s = record { state = s; word = None; due = false; error = false }
 
 -- FRAME, where it is due. W4: it rises after rule 9, and not with a word that overruns.
 unfoldable pub flagged : Captured → Capture
@@ -94,11 +93,11 @@ frame_due (Open taken f) s now = taken && frame_rises s f now
 
 -- Rules 4 and 8, W4 (004, 32.3.9): with JPEG 1 the partial word of a taken frame that ends is filled with zero bytes. A word without data is none.
 unfoldable pub padded : Frame → Capture → Option ℕ
-padded Closed s = none
+padded Closed s = None
 padded (Open taken f) s =
     cond (taken && jpeg s.registers.cr && ltb 0 s.partial.count)
-    (some (zero_filled (edm s.registers.cr) s.partial.count s.partial.bits))
-    none
+    (Some (zero_filled (edm s.registers.cr) s.partial.count s.partial.bits))
+    None
 
 -- Rule 4 (004, 32.3.7): of a taken frame that ends CAPTURE becomes 0 with CM 1; a partial word is dropped, with JPEG 1 once it has been answered.
 unfoldable pub end_of : Frame → Capture → Capture
@@ -110,11 +109,11 @@ unfoldable pub frame_closes : Capture → Syncs → Capture
 frame_closes s now = cond now.vsync (end_of s.frame s) s
 
 unfoldable pub frame_pads : Capture → Syncs → Option ℕ
-frame_pads s now = cond now.vsync (padded s.frame s) none
+frame_pads s now = cond now.vsync (padded s.frame s) None
 
 -- Rules 2 and 4, W4 (004, 32.3.9): the word that a sample by the sync pins pads.
 unfoldable pub padded_at : Capture → ℕ → Option ℕ
-padded_at s w = cond (working_edge s w && enabled s) (frame_pads s (blanking s w)) none
+padded_at s w = cond (working_edge s w && enabled s) (frame_pads s (blanking s w)) None
 
 -- Rule 4: the frame's end, the word that it pads, and whether FRAME is due. FRAME itself rises behind rule 9 (W4, `flagged`).
 unfoldable pub frame_end : Capture → Syncs → Captured
@@ -172,7 +171,7 @@ unfoldable pub pack : Capture → ℕ → Captured
 pack s x =
     cond (ltb (s.partial.count + 1) (per_word (edm s.registers.cr)))
     (no_word (with_partial (record { count = s.partial.count + 1; bits = packed_bits s x }) s))
-    (record { state = with_partial no_partial s; word = some (packed_bits s x); due = false; error = false })
+    (record { state = with_partial no_partial s; word = Some (packed_bits s x); due = false; error = false })
 
 -- Rules 6 to 8 at a pixel of an open frame, taken or not: its place, whether it is captured, and the packing.
 unfoldable pub pixel : Capture → Bool → Scan → ℕ → Captured
@@ -191,8 +190,8 @@ pixel_edge s now x = pixel_in s.frame s now x
 
 -- The word of a frame's end, or else of a pixel. Where VSYNC blanks the edge carries no pixel.
 unfoldable pub either_word : Option ℕ → Option ℕ → Option ℕ
-either_word none w = w
-either_word (some v) w = some v
+either_word None w = w
+either_word (Some v) w = Some v
 
 -- Rules 3 to 8 at a working edge, one after the other: flags (3), frame end (4), frame start (5), pixel (6 to 8). Whether each sync blanks is remembered last: until then
 -- `syncs` is that of the last working edge.

@@ -2,8 +2,7 @@
 -- `codes`; here is what a datum and a meaning do. Taking of frames, window, packing, FRAME and the frame's end are those of `Capture`.
 -- "Sync pins are ignored: VSYNC blanks outside a frame, HSYNC outside a line": `syncs` is what the codes said last. A frame end makes both blank, a line end HSYNC; a frame
 -- start or a line start neither. Enabling, ERR and an overrun leave VSYNC not blanking with no frame open: then only a frame start counts.
-use Rattle.std.specs.Prelude.{Bool, true, false, cond, not, ◌&&◌, List, [], ◌∷◌, ℕ, ◌+◌, ◌-◌, length}
-use Rattle.std.proofs.Math.Option.{none}
+use Rattle.std.specs.Prelude.{Bool, true, false, cond, not, ◌&&◌, List, [], ◌∷◌, ℕ, ◌+◌, ◌-◌, length, None}
 use Rattle.registers.specs.Control.{capture}
 use Rattle.codes.specs.declared.Waiting.TheVariants.{Zero}
 use Rattle.codes.specs.declared.Meaning.{Meaning}
@@ -83,7 +82,7 @@ closes s now =
     let u = with_syncs (coded_syncs s) s in
     record {
       state = with_syncs now (frame_closes (cond (capture s.registers.cr) (sync_flags u now) u) now);
-      word = none;
+      word = None;
       due = frame_due s.frame u now;
       error = false;
     }
@@ -96,7 +95,7 @@ frame_ended = record { hsync = true; vsync = true }
 
 -- ERR (004, 32.5.3 ERR_RIS): the frame closes without FRAME, the partial word is dropped, held words are discarded.
 unfoldable pub errs : Capture → Captured
-errs s = record { state = raise 2 (with_syncs not_blanking (close_frame s)); word = none; due = false; error = true }
+errs s = record { state = raise 2 (with_syncs not_blanking (close_frame s)); word = None; due = false; error = true }
 
 -- A line start: in an open line it is an error; outside a frame too, but where FSC is 0xFF it starts the frame.
 unfoldable pub line_start : Frame → Capture → Captured

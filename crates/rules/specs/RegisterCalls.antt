@@ -1,5 +1,5 @@
 -- Register reads and writes, the interrupt line, making a device and re-arming (document 01, "Registers", "Writing CR" and "Refusal numbers").
-use Rattle.std.specs.Prelude.{Bool, true, false, cond, not, ◌&&◌, ◌||◌, List, [], ◌∷◌, ℕ, ◌+◌, ◌-◌, eqb, ltb}
+use Rattle.std.specs.Prelude.{Bool, true, false, cond, not, ◌&&◌, ◌||◌, List, [], ◌∷◌, ℕ, ◌+◌, ◌-◌, eqb, ltb, Option, Some, None}
 use Rattle.std.specs.Int.Bits.{bit_and}
 use Rattle.bits.specs.Bits.{field}
 use Rattle.bits.specs.Tests.{number_if}
@@ -9,8 +9,6 @@ use Rattle.registers.specs.declared.Register.{Register}
 use Rattle.registers.specs.declared.Register.TheVariants.{Control, Status, RawStatus, InterruptEnable, MaskedStatus, InterruptClear, EmbeddedCode, EmbeddedUnmask, WindowStart, WindowSize}
 use Rattle.registers.specs.declared.Access.{Access}
 use Rattle.registers.specs.declared.Access.TheVariants.{ReadWrite, ReadOnly, WriteOnly}
-use Rattle.registers.specs.declared.Found.{Found}
-use Rattle.registers.specs.declared.Found.TheVariants.{At, Nothing}
 use Rattle.codes.specs.declared.Waiting.TheVariants.{Zero}
 use Rattle.rules.specs.declared.Syncs.{Syncs}
 use Rattle.rules.specs.declared.Frame.TheVariants.{Closed}
@@ -59,9 +57,9 @@ value d WindowStart = d.core.capture.registers.cwstrt
 value d WindowSize = d.core.capture.registers.cwsize
 
 -- Refusal 2, of what stands at an offset; refusal 3, of a read and of a write.
-abbrev pub missing : Found → Bool
-missing Nothing = true
-missing (At r) = false
+abbrev pub missing : Option Register → Bool
+missing None = true
+missing (Some r) = false
 
 abbrev pub no_read : Access → Bool
 no_read ReadWrite = false
@@ -73,17 +71,17 @@ no_write ReadWrite = false
 no_write ReadOnly = true
 no_write WriteOnly = false
 
-abbrev pub unreadable : Found → Bool
-unreadable Nothing = false
-unreadable (At r) = no_read (access r)
+abbrev pub unreadable : Option Register → Bool
+unreadable None = false
+unreadable (Some r) = no_read (access r)
 
-abbrev pub unwritable : Found → Bool
-unwritable Nothing = false
-unwritable (At r) = no_write (access r)
+abbrev pub unwritable : Option Register → Bool
+unwritable None = false
+unwritable (Some r) = no_write (access r)
 
-abbrev pub value_at : Device → Found → ℕ
-value_at d Nothing = 0
-value_at d (At r) = value d r
+abbrev pub value_at : Device → Option Register → ℕ
+value_at d None = 0
+value_at d (Some r) = value d r
 
 -- A register read: refusals 1, 2, 3, or the value.
 unfoldable pub read_refusal : Device → ℕ → ℕ
@@ -93,14 +91,14 @@ unfoldable pub read : Device → ℕ → Answer ℕ
 read d offset = answer (read_refusal d offset) (value_at d (register_at offset))
 
 -- Refusal 4: a reserved bit of the written value is 1.
-abbrev pub reserved_at : Found → ℕ → Bool
-reserved_at Nothing v = false
-reserved_at (At r) v = reserved_set r v
+abbrev pub reserved_at : Option Register → ℕ → Bool
+reserved_at None v = false
+reserved_at (Some r) v = reserved_set r v
 
 -- Refusal 5: a CR value with JPEG 1 otherwise than with EDM 0 and CROP 0 (W4), ESS 1 with an EDM other than 0 or with JPEG 1 (W6), FCRC 3, or CAPTURE 1 and ENABLE 0.
-abbrev pub unsupported_at : Found → ℕ → Bool
-unsupported_at Nothing v = false
-unsupported_at (At r) v = is_control r && unsupported v
+abbrev pub unsupported_at : Option Register → ℕ → Bool
+unsupported_at None v = false
+unsupported_at (Some r) v = is_control r && unsupported v
 
 -- A CR bit other than 0 and 14 would change: bits 13:1 or those above 14.
 unfoldable pub changes_setup : ℕ → ℕ → Bool
@@ -110,12 +108,12 @@ changes_setup cr v = not (eqb (field 13 1 cr) (field 13 1 v)) || not (eqb (field
 abbrev pub fixed : ℕ → Register → ℕ → Bool
 fixed cr r v = is_fixed r || (is_control r && changes_setup cr v)
 
-abbrev pub fixed_at : ℕ → Found → ℕ → Bool
-fixed_at cr Nothing v = false
-fixed_at cr (At r) v = enable cr && fixed cr r v
+abbrev pub fixed_at : ℕ → Option Register → ℕ → Bool
+fixed_at cr None v = false
+fixed_at cr (Some r) v = enable cr && fixed cr r v
 
 -- A register write's refusals 2 to 6, which depend on CR alone; and all of them.
-abbrev pub register_tests : ℕ → Found → ℕ → List Test
+abbrev pub register_tests : ℕ → Option Register → ℕ → List Test
 register_tests cr r v = missing r ⇒ 2 ∷ unwritable r ⇒ 3 ∷ reserved_at r v ⇒ 4 ∷ unsupported_at r v ⇒ 5 ∷ fixed_at cr r v ⇒ 6 ∷ []
 
 unfoldable pub write_refusal : Device → ℕ → ℕ → ℕ
@@ -167,9 +165,9 @@ abbrev pub disables : ℕ → Register → ℕ → Bool
 disables cr r v = is_control r && enable cr && not (enable v)
 
 -- An accepted register write, of the device.
-unfoldable pub write_at : Device → Found → ℕ → Device
-write_at d Nothing v = d
-write_at d (At r) v =
+unfoldable pub write_at : Device → Option Register → ℕ → Device
+write_at d None v = d
+write_at d (Some r) v =
     device (write_register r v (capture_of d))
     (cond (disables d.core.capture.registers.cr r v) (discard 0 (output_of d)) (output_of d))
 

@@ -1,13 +1,15 @@
 -- One sample whole, and a run (document 01, "One sample", "Memory and counts" and "Refusal numbers").
-use Rattle.std.specs.Prelude.{cond, List, [], ◌∷◌, ◌++◌, ℕ, eqb, ltb, length, take, drop}
-use Rattle.std.proofs.Math.Option.{Option, none, some}
+use Rattle.std.specs.Prelude.{cond, List, [], ◌∷◌, ◌++◌, ℕ, eqb, ltb, length, take, drop, Option, None, Some}
 use Rattle.registers.specs.Control.{snapshot}
 use Rattle.refusals.specs.Refusals.{Answer, answer}
 use Rattle.samples.specs.Samples.{bus_grant}
 use Rattle.run_refusals.specs.RunRefusals.{refusal_of}
 use Rattle.output.specs.declared.Fate.{Fate}
 use Rattle.output.specs.declared.Fate.TheVariants.{Held, Lost}
-use Rattle.output.specs.Output.{OutputState, counted, grant, offer, discard, Packed, nothing, completed, lost, in_memory, SampleAnswer}
+use Rattle.output.specs.Output.{OutputState, counted, grant, offer, discard, in_memory}
+use Rattle.output.specs.declared.Packing.{Packing as Packed}
+use Rattle.output.specs.declared.Packing.TheVariants.{Nothing as nothing, Completed as completed, Lost as lost}
+use Rattle.output.specs.declared.SampleAnswer.{SampleAnswer}
 use Rattle.rules.specs.declared.Capture.{Capture}
 use Rattle.rules.specs.declared.Device.{Device}
 use Rattle.rules.specs.State.{device, capture_of, output_of, raise, clear_capture, close_frame}
@@ -32,8 +34,8 @@ after_word Lost v c x = record { device = device (lose_frame c.state) (discard 1
 
 -- A sample without a full word: FRAME rises where it is due, and where ERR rose (W6) the held words are discarded; or with one.
 unfoldable pub complete : Option ℕ → Captured → OutputState → Completed
-complete none c x = record { device = device (flagged c) (cond c.error (discard 0 x) x); packed = nothing }
-complete (some v) c x = after_word (offer v x).fate v c (offer v x).state
+complete None c x = record { device = device (flagged c) (cond c.error (discard 0 x) x); packed = nothing }
+complete (Some v) c x = after_word (offer v x).fate v c (offer v x).state
 
 -- Rules 2 to 9 after the grant.
 unfoldable pub after_grant : Capture → OutputState → ℕ → Completed

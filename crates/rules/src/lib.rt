@@ -1,6 +1,7 @@
 // The state of the camera interface, as plain data. What the calls make of it is defined in specs/, in the paper's order and words;
 // proofs/ has the laws of those definitions and the bench sheet's cases. There is no code here: the functions stand in the crates above.
 // The order of the fields means nothing to the rules; it decides what the compiler keeps in registers (docs/SPEED.md).
+// The types derive `Clone` and `Copy` alone: nothing compares or prints them.
 #![tactic(auto)]
 
 use codes::Waiting;
@@ -41,7 +42,7 @@ pub struct Scan {
     pub pixels: u32,
 }
 
-// Closed, or open: whether the frame is one of those taken, and the place in it.
+// Closed, or open: whether the frame is one of those taken, and the place in it. No `Option`, which is no plainer: the papers and the definitions name both states.
 #[derive(Clone, Copy)]
 pub enum Frame {
     Closed,
@@ -75,7 +76,7 @@ pub struct Core {
     pub output: Output,
 }
 
-// The device. The held words stand in the first slots, oldest first.
+// The device. The held words stand in the first slots, oldest first: an array with the number held beside it (`Output::held`), since there is no heap and C's image has every slot.
 #[derive(Clone, Copy)]
 pub struct Device {
     pub core: Core,

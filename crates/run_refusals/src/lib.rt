@@ -5,7 +5,7 @@ ghost use Rattle.std.specs.Prelude.{◌≡◌, ◌+◌, ltb, length};
 ghost use Rattle.refusals.specs.Table.{outcome};
 ghost use Rattle.run_refusals.specs.RunRefusals.{refusal_of};
 
-use refusals::{Outcome, Refusal};
+use refusals::Refusal;
 use samples::any_bad;
 
 // Whether the samples in all would pass 4,294,967,295.
@@ -16,20 +16,26 @@ fn too_many(before: u32, samples: &[u32]) -> bool
 }
 
 // A run's refusals 1, 9, 7, 8 in order, by whether the device is malformed and how many samples it has counted.
-pub fn refusal_of(bad: bool, before: u32, memory: &[u8], start: usize, samples: &[u32]) -> Outcome
+pub fn refusal_of(
+    bad: bool,
+    before: u32,
+    memory: &[u8],
+    start: usize,
+    samples: &[u32],
+) -> Result<(), Refusal>
     ensures { outcome result ≡ refusal_of bad (ltb (length memory.now) start) before samples.now }
 {
     if bad {
-        return Outcome::Refused(Refusal::Malformed);
+        return Err(Refusal::Malformed);
     }
     if memory.len() < start {
-        return Outcome::Refused(Refusal::StartBeyond);
+        return Err(Refusal::StartBeyond);
     }
     if any_bad(samples) {
-        return Outcome::Refused(Refusal::SampleBits);
+        return Err(Refusal::SampleBits);
     }
     if too_many(before, samples) {
-        return Outcome::Refused(Refusal::SampleTotal);
+        return Err(Refusal::SampleTotal);
     }
-    Outcome::Accepted
+    Ok(())
 }

@@ -3,9 +3,12 @@
 use mathlib.Core.Path.{◌≡◌, refl, sym, ap, ◌∙◌}
 use mathlib.Core.List.{List}
 use Prim.Native.Nat.{ℕ, ◌+◌, ◌<◌, ◌≤◌}
-use native.Mathlib.Numerals.{add-one, add-one-le}
-use lib.ListN.{length, get_or, drop, drop_of_length-le}
+use native.Mathlib.Numerals.{add-one}
+use lib.ListN.{get_or, drop, drop_of_length-le}
 use lib.Seq.{drop-cons}
+use Rattle.std.specs.Prelude.{Result, Ok, Err}
+use Rattle.std.specs.Result.{result_unwrap_or}
+use Rattle.refusals.specs.declared.Refusal.{Refusal}
 use Rattle.rules.specs.declared.Device.{Device}
 use Rattle.rules.specs.RegisterCalls as register_rules
 use Rattle.rules.specs.Run.{sample}
@@ -18,17 +21,22 @@ use Rattle.board_rules.specs.BoardCalls as board_calls
 use Rattle.board_rules.specs.BoardCalls.{in_one}
 use Rattle.board_rules.specs.BoardRuns.{OneSample}
 use Rattle.board_laws.proofs.AsBefore.{one_buffer_as_before}
+use Rattle.board.specs.Answers.{changed}
 use Rattle.board.proofs.Modes.{sample_one}
 use Rattle.sample_log.specs.Samples.{trace_t, samples, Left, left, sample_left, left_in_one}
 
+-- the board that a call leaves: refused, the one before
+left_by : (x : Board) (r : Result Board Refusal) → result_unwrap_or r x ≡ (changed x r).board
+left_by x (Ok b) = refl
+left_by x (Err e) = refl
+
 -- the board after the write of CR
-pub written_one : (cr : ℕ) (b x : Board) (n : ℕ) → x ≡ board_calls.fresh → record { number = n; board = b } ≡ board_calls.write x 0 cr → b ≡ in_one (register_rules.write state.fresh 0 cr).device
-written_one cr b x n fresh write =
-    ap (λ (a : Changed). a.board) (write ∙ ap (λ (y : Board). board_calls.write y 0 cr) fresh ∙ (one_buffer_as_before state.fresh).write 0 cr)
+pub written_one : (cr : ℕ) (b x : Board) (r : Result Board Refusal) → x ≡ board_calls.fresh → changed x r ≡ board_calls.write x 0 cr → b ≡ result_unwrap_or r x
+    → b ≡ in_one (register_rules.write state.fresh 0 cr).device
+written_one cr b x r fresh write is =
+    is ∙ left_by x r ∙ ap (λ (a : Changed). a.board) (write ∙ ap (λ (y : Board). board_calls.write y 0 cr) fresh ∙ (one_buffer_as_before state.fresh).write 0 cr)
 
 pub record Turn (b₀ : Board) (ms : List ℕ) (b : Board) (memory : List ℕ) (i : ℕ) : Type 0 where
-  pub within : i ≤ 8
-  pub long : length memory ≡ length ms
   pub one : b.mode ≡ One
   pub same : samples b.device memory (drop i trace_t) ≡ samples b₀.device ms trace_t
 
@@ -38,12 +46,10 @@ unfolding samples
 one_more d m i w less e = rw (add-one, drop-cons trace_t i 0 less, e) refl
 
 pub next : {b₀ : Board} {ms : List ℕ} {b : Board} {m : List ℕ} {i : ℕ} → Turn b₀ ms b m i → (e : Board) (ys : List ℕ) (w : ℕ) → i < 8 → w ≡ get_or trace_t i 0
-    → left e ys ≡ sample_left b m w → length ys ≡ length m → Turn b₀ ms e ys (i + 1)
-next {b = b} {m = m} {i = i} t e ys w less w_is is long =
+    → left e ys ≡ sample_left b m w → Turn b₀ ms e ys (i + 1)
+next {b = b} {m = m} {i = i} t e ys w less w_is is =
     let taken : left e ys ≡ left (in_one (sample b.device m 0 w).device) (sample b.device m 0 w).memory = is ∙ ap (λ (a : OneSample). left a.board a.memory) (sample_one b m 0 w t.one) in
     record {
-      within = add-one-le less;
-      long = long ∙ t.long;
       one = ap (λ (a : Left). a.board.mode) taken;
       same = ap (λ (a : Left). samples a.board.device a.memory (drop (i + 1) trace_t)) taken ∙ one_more b.device m i w less w_is ∙ t.same;
     }

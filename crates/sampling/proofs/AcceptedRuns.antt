@@ -2,7 +2,7 @@
 use mathlib.Core.Bool.{Bool, false}
 use mathlib.Core.List.{List}
 use mathlib.Core.Path.{◌≡◌, sym}
-use mathlib.Core.Option.{some}
+use Rattle.std.specs.Prelude.{Some}
 use Prim.Native.Nat.{ℕ, ◌+◌, ◌≤◌, ◌<◌, ◌^◌}
 use native.Mathlib.Omega.{arith}
 use lib.Dec.{ltb}
@@ -39,6 +39,6 @@ unfolding run_refusal
 refusal_by d memory start samples is e = rw (← is) (sym e)
 
 -- A word lands within the frame buffer.
-pub landing_within : (buffer : List ℕ) (b : ℕ) (d : Device) (w : ℕ) → (step d buffer w).landing ≡ some b → b < length buffer
+pub landing_within : (buffer : List ℕ) (b : ℕ) (d : Device) (w : ℕ) → (step d buffer w).landing ≡ Some b → b < length buffer
 unfolding step
 landing_within buffer b d w = landing_in buffer b (bus_grant w) (enabled d.core.capture) (counted (output_of d))

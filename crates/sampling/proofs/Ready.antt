@@ -6,9 +6,10 @@ use native.Mathlib.Omega.{arith}
 use Rattle.registers.specs.Control.{embedded}
 use Rattle.samples.specs.Samples.{bus_grant}
 use lib.ListN.{length}
-use mathlib.Core.Bool.{true, false}
-use mathlib.Core.Option.{some}
+use mathlib.Core.Bool.{false}
+use Rattle.std.specs.Prelude.{Some}
 use Rattle.output.specs.Output.{slot_count, with_counts, count_sample, Granted, grant, counted}
+use Rattle.output.specs.declared.SampleAnswer.{SampleAnswer}
 use Rattle.output.specs.WellFormed.{Laid}
 use Rattle.output.proofs.Contents.{not_malformed_laid}
 use Rattle.output.proofs.Untouched.{grant_untouched}
@@ -18,20 +19,16 @@ use Rattle.rules.specs.declared.Capture.{Capture}
 use Rattle.rules.specs.declared.Device.{Device}
 use Rattle.rules.specs.State.{capture_of, output_of, with_pins, with_syncs}
 use Rattle.rules.specs.Capture.{enabled, padded_at, Captured}
-use Rattle.rules.specs.Sample.{capture_sample}
-use Rattle.rules.specs.Unpadded.{unpadded_sample}
-use Rattle.rules.specs.Run.{Completed, complete, after_grant, step}
+use Rattle.rules.specs.Run.{Completed, complete, step}
 use Rattle.rules.proofs.WellFormed.{CaptureOk, WellFormed, facts}
 use Rattle.fifo.specs.Notes.{note_landing, note_packing}
+use Rattle.sampling.specs.Kinds.{stepped_as}
 use Rattle.sampling.specs.Notes.{Noted, noted_step}
 use Rattle.laws.proofs.RegisterValues.{uncropped}
 use Rattle.laws.proofs.CaptureParts.{pins_syncs_ok}
 use Rattle.laws.proofs.Sampled.{sample_ok}
 use Rattle.laws.proofs.Unpadded.{sample_padded}
-use Rattle.laws.proofs.UnpaddedSample.{step_unpadded}
 use Rattle.capture.specs.Answers.{ended}
-use Rattle.full_word.specs.Answers.{with_word}
-use Rattle.sampling.specs.Unpadded.{Plain}
 use Rattle.laws.proofs.KeepsSample.{counted_laid}
 
 pub more_lines : {m n : ℕ} {s : Capture} → m ≤ n → CaptureOk m s → CaptureOk n s
@@ -64,34 +61,16 @@ module _ (d : Device) (b : List ℕ) (w : ℕ) (well : WellFormed d) (laid : Lai
         (omega (arith, left.completed, q.completed), omega (arith, left.discarded, left.held, q.equation, q.completed)),
       )
 
--- A sample that pads no word, from what rule 1, rules 2 to 8 and rule 9 leave and answer.
-pub stepped : (d : Device) (b l v : List ℕ) (w : ℕ) {g : Granted} {c : Captured} {r : Completed} → Plain (capture_of d) w → g ≡ granted_of d b w
-    → c ≡ unpadded_sample (capture_of d) w → r ≡ complete c.word c g.state
+-- A sample of a kind, from what rule 1 and the rules of the kind leave and answer.
+pub stepped : (d : Device) (b : List ℕ) (a : SampleAnswer) (w : ℕ) (c : Captured) {g : Granted} {r : Completed} → step d b w ≡ stepped_as c d b w → g ≡ granted_of d b w
+    → r ≡ complete c.word c g.state
     → ◌≡◌ {A = Noted}
-    (record { device = r.device; buffer = g.buffer; landings = note_landing g.landing l; words = note_packing r.packed v })
-    (noted_step (record { device = d; buffer = b; landings = l; words = v }) w)
-unfolding noted_step
-stepped d b l v w (plain, unpadded) granted captured after = rw (step_unpadded d b w plain unpadded, after, captured, granted)
+    (record { device = r.device; buffer = g.buffer; answer = note_packing r.packed (note_landing g.landing a) })
+    (noted_step (record { device = d; buffer = b; answer = a }) w)
+unfolding noted_step stepped_as
+stepped d b a w c is granted after = rw (is, after, granted)
 
--- A sample that pads one: the same with the padded word.
-pub ended_fits : {n : ℕ} {s : Capture} (w v : ℕ) → CaptureOk n s → embedded s.registers.cr ≡ false → padded_at s w ≡ some v → (ended s w).registers.ris ≤ 31
+-- A sample that pads a word.
+pub ended_fits : {n : ℕ} {s : Capture} (w v : ℕ) → CaptureOk n s → embedded s.registers.cr ≡ false → padded_at s w ≡ Some v → (ended s w).registers.ris ≤ 31
 unfolding ended
 ended_fits {s = s} w v h plain e = rw (← ap (λ (c : Captured). c.state) (sample_padded s w v plain (uncropped s.registers h.allowed) e)) (sample_ok w h).ris
-
-pub stepped_padded : (d : Device) (b l v : List ℕ) (w : ℕ) {g : Granted} {r : Completed} → WellFormed d → embedded d.core.capture.registers.cr ≡ false → padded_at (capture_of d) w ≡ some d.core.capture.partial.bits
-    → g ≡ granted_of d b w → r ≡ complete (some d.core.capture.partial.bits) (with_word d.core.capture.partial.bits true (ended (capture_of d) w)) g.state
-    → ◌≡◌ {A = Noted}
-    (record { device = r.device; buffer = g.buffer; landings = note_landing g.landing l; words = note_packing r.packed v })
-    (noted_step (record { device = d; buffer = b; landings = l; words = v }) w)
-unfolding noted_step step after_grant complete ended
-stepped_padded d b l v w well plain padded granted after =
-    rw (sample_padded (capture_of d) w d.core.capture.partial.bits plain (uncropped d.core.capture.registers well.capture.allowed) padded, after, granted)
-
--- A sample by codes (W6), from what rule 1, rules 2 to 8 and rule 9 leave and answer.
-pub stepped_coded : (d : Device) (b l v : List ℕ) (w : ℕ) {g : Granted} {c : Captured} {r : Completed} → g ≡ granted_of d b w
-    → c ≡ capture_sample (capture_of d) w → r ≡ complete c.word c g.state
-    → ◌≡◌ {A = Noted}
-    (record { device = r.device; buffer = g.buffer; landings = note_landing g.landing l; words = note_packing r.packed v })
-    (noted_step (record { device = d; buffer = b; landings = l; words = v }) w)
-unfolding noted_step step after_grant
-stepped_coded d b l v w granted captured after = rw (after, captured, granted)

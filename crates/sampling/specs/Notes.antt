@@ -1,15 +1,15 @@
--- Samples with their two answers noted in lent places (crate `fifo`, Notes). No contract of a call that users make cites them.
+-- Samples with their two answers noted in a lent place (crate `fifo`, Notes). No contract of a call that users make cites them.
 use Rattle.std.specs.Prelude.{List, [], ◌∷◌, ℕ}
+use Rattle.output.specs.declared.SampleAnswer.{SampleAnswer}
 use Rattle.rules.specs.declared.Device.{Device}
 use Rattle.rules.specs.Run.{step}
 use Rattle.fifo.specs.Notes.{note_landing, note_packing}
 
--- Device, frame buffer and places.
+-- Device, frame buffer and what is noted.
 pub record Noted : Type 0 where
   pub device : Device
   pub buffer : List ℕ
-  pub landings : List ℕ
-  pub words : List ℕ
+  pub answer : SampleAnswer
 
 -- One sample, with its answers noted; and some samples.
 unfoldable pub noted_step : Noted → ℕ → Noted
@@ -18,8 +18,7 @@ noted_step n w =
     record {
       device = r.device;
       buffer = r.buffer;
-      landings = note_landing r.landing n.landings;
-      words = note_packing r.packed n.words;
+      answer = note_packing r.packed (note_landing r.landing n.answer);
     }
 
 unfoldable pub noted_steps : Noted → List ℕ → Noted

@@ -12,34 +12,34 @@ ghost use Rattle.rules.specs.Capture.{enabled};
 ghost use Rattle.rules.specs.Run as run_rules;
 ghost use Rattle.rules.specs.WellFormed.{malformed};
 ghost use Rattle.rules.proofs.WellFormed.{WellFormed};
-ghost use Rattle.sampling.specs.Unpadded as unpadded;
+ghost use Rattle.sampling.specs.Kinds as kind_rules;
 ghost use Rattle.full_word.specs.Answers as word_answers;
 ghost use Rattle.sampling.specs.Answers as sample_answers;
 ghost use Rattle.sampling.specs.Notes as note_rules;
 
 mod coded;
 mod jpeg;
+mod kinds;
 mod single;
 
 use crate::coded::coded_steps;
 pub use crate::coded::data_end;
 use crate::jpeg::jpeg_steps;
+use crate::kinds::{Kind, Unpadded};
 pub use crate::single::sample_core;
 use fields::control;
-use fifo::notes::{note_landing, note_packing};
+use fifo::notes::{no_answer, note_landing, note_packing};
 use fifo::{count_sample, grant, no_landing};
-use full_word::complete;
-use output::{Granted, Landing, Output, Packing, SLOTS};
-use refusals::Refusal;
+use output::{Granted, Output, SLOTS, SampleAnswer};
 use rules::{Capture, Core, Device};
 use samples::bus_grant;
 
-// One sample over a core and lent slots: the core after it, where a word landed, as a byte of the lent memory, and what became of the sample's own word; or a refusal, which
-// has no core: so the compiler need not keep one (docs/SPEED.md).
+// One sample over a core and lent slots: the core after it, and its two answers, the landing as a byte of the lent memory. A refused one leaves no core: so the compiler need
+// not keep one (docs/SPEED.md).
 #[derive(Clone, Copy)]
-pub enum SampledCore {
-    Answered(Core, Landing, Packing),
-    Refused(Refusal),
+pub struct SampledCore {
+    pub core: Core,
+    pub answer: SampleAnswer,
 }
 
 // Rule 1, by the sample's bus grant and ENABLE.
@@ -54,54 +54,47 @@ fn granted(s: Capture, o: Output, slots: &mut [u32; SLOTS], buffer: &mut [u8], w
     no_landing(o)
 }
 
-// The nine rules in order for a sample by the sync pins that pads no word, with the answers of rules 1 and 9 noted.
-fn step(
+// The nine rules in order for a sample of that kind, with the answers of rules 1 and 9 noted. Here and in the other functions the slots, the frame buffer and the answer are lent and
+// the core goes by value, each by itself, for speed (docs/SPEED.md).
+fn step<K: Kind>(
     d: Core,
     slots: &mut [u32; SLOTS],
     buffer: &mut [u8],
-    landings: &mut [usize; 2],
-    words: &mut [u32; 2],
+    answer: &mut SampleAnswer,
     w: u32,
 ) -> Core
     requires well_formed { WellFormed (word_answers.device d slots.old) }
     requires laid { Laid (output_answers.left d.output slots.old) }
     requires samples_bound { d.output.counts.samples + 1 < 2 ^ 32 }
-    requires plain { unpadded.Plain d.capture w }
-    ensures { sample_answers.noted result slots.new buffer.new landings.new words.new ≡ note_rules.noted_step (sample_answers.noted d slots.old buffer.old landings.old words.old) w }
+    requires kind { K.Has d.capture w }
+    ensures { sample_answers.noted result slots.new buffer.new answer.new ≡ note_rules.noted_step (sample_answers.noted d slots.old buffer.old answer.old) w }
 {
     let s = capture::apart(d.capture);
     let counted = count_sample(d.output);
     let g = granted(s, counted, slots, buffer, w);
-    let landing = g.landing;
-    note_landing(landing, landings);
-    let o = g.output;
-    let c = complete(capture::unpadded_sample(s, w), o, slots);
-    let packing = c.packing;
-    note_packing(packing, words);
+    note_landing(g.landing, answer);
+    let c = K::after_grant(s, w, g.output, slots);
+    note_packing(c.packing, answer);
     c.core
 }
 
-// Samples of which none pads a word, in order. Its loop is the one place where `step` is called, so that the compiler makes the rules part of it.
-fn unpadded_steps(
+// Samples of that kind, in order. A kind's `step` is called at one place, here or in the loop of its module, so that the compiler makes the rules part of that loop (docs/SPEED.md).
+fn steps_of<K: Kind>(
     d: Core,
     slots: &mut [u32; SLOTS],
     buffer: &mut [u8],
-    landings: &mut [usize; 2],
-    words: &mut [u32; 2],
+    answer: &mut SampleAnswer,
     samples: &[u32],
 ) -> Core
     requires well_formed { WellFormed (word_answers.device d slots.old) }
     requires laid { Laid (output_answers.left d.output slots.old) }
     requires samples_bound { d.output.counts.samples + length samples.now < 2 ^ 32 }
-    requires unpadded { unpadded.Unpadded (word_answers.device d slots.old) buffer.old samples.now }
-    ensures { sample_answers.noted result slots.new buffer.new landings.new words.new ≡ note_rules.noted_steps (sample_answers.noted d slots.old buffer.old landings.old words.old) samples.now }
+    requires kind { kind_rules.Each K.Has (word_answers.device d slots.old) buffer.old samples.now }
+    ensures { sample_answers.noted result slots.new buffer.new answer.new ≡ note_rules.noted_steps (sample_answers.noted d slots.old buffer.old answer.old) samples.now }
 {
     let mut e = d;
-    let mut i = 0;
-    while i < samples.len() {
-        let w = samples[i];
-        e = step(e, slots, buffer, landings, words, w);
-        i += 1;
+    for &w in samples {
+        e = step::<K>(e, slots, buffer, answer, w);
     }
     e
 }
@@ -111,22 +104,21 @@ pub fn steps(
     d: Core,
     slots: &mut [u32; SLOTS],
     buffer: &mut [u8],
-    landings: &mut [usize; 2],
-    words: &mut [u32; 2],
+    answer: &mut SampleAnswer,
     samples: &[u32],
 ) -> Core
     requires well_formed { WellFormed (word_answers.device d slots.old) }
     requires laid { Laid (output_answers.left d.output slots.old) }
     requires samples_bound { d.output.counts.samples + length samples.now < 2 ^ 32 }
-    ensures { sample_answers.noted result slots.new buffer.new landings.new words.new ≡ note_rules.noted_steps (sample_answers.noted d slots.old buffer.old landings.old words.old) samples.now }
+    ensures { sample_answers.noted result slots.new buffer.new answer.new ≡ note_rules.noted_steps (sample_answers.noted d slots.old buffer.old answer.old) samples.now }
 {
     if control::embedded(d.capture.registers.cr) {
-        return coded_steps(d, slots, buffer, landings, words, samples);
+        return coded_steps(d, slots, buffer, answer, samples);
     }
     if control::jpeg(d.capture.registers.cr) {
-        return jpeg_steps(d, slots, buffer, landings, words, samples);
+        return jpeg_steps(d, slots, buffer, answer, samples);
     }
-    unpadded_steps(d, slots, buffer, landings, words, samples)
+    steps_of::<Unpadded>(d, slots, buffer, answer, samples)
 }
 
 // The samples in order over a device by value: its slots are taken out for the loop, and put back. What is noted is not read.
@@ -136,15 +128,7 @@ pub fn run(d: Device, buffer: &mut [u8], samples: &[u32]) -> Device
     ensures { sample_answers.ran result buffer.new ≡ run_rules.steps d buffer.old samples.now }
 {
     let mut slots = d.slots;
-    let mut landings = [0; 2];
-    let mut words = [0; 2];
-    let core = steps(
-        d.core,
-        &mut slots,
-        buffer,
-        &mut landings,
-        &mut words,
-        samples,
-    );
+    let mut answer = no_answer();
+    let core = steps(d.core, &mut slots, buffer, &mut answer, samples);
     Device { core, slots }
 }

@@ -6,9 +6,9 @@ ghost use Rattle.full_word.specs.Answers as word_answers;
 ghost use Rattle.sampling.specs.Answers as sample_answers;
 
 use crate::{SampledCore, steps};
-use fifo::notes::{in_memory, noted_landing, noted_packing};
+use fifo::notes::{in_memory, no_answer};
 use output::SLOTS;
-use refusals::Outcome;
+use refusals::Refusal;
 use rules::Core;
 use run_refusals::refusal_of;
 use well_formed::malformed_core;
@@ -20,30 +20,15 @@ pub fn sample_core(
     memory: &mut [u8],
     start: usize,
     w: u32,
-) -> SampledCore
+) -> Result<SampledCore, Refusal>
     requires { length slots.old ≡ slot_count }
     ensures { sample_answers.sampled_core core result slots.new memory.new ≡ run_rules.sample (word_answers.device core slots.old) memory.old start w }
 {
     let bad = malformed_core(core, slots);
     let one = [w];
-    let outcome = refusal_of(bad, core.output.counts.samples, memory, start, &one);
-    match outcome {
-        Outcome::Refused(refusal) => SampledCore::Refused(refusal),
-        Outcome::Accepted => {
-            let mut landings = [0; 2];
-            let mut words = [0; 2];
-            let after = steps(
-                core,
-                slots,
-                &mut memory[start..],
-                &mut landings,
-                &mut words,
-                &one,
-            );
-            let landed = noted_landing(landings);
-            let landing = in_memory(start, landed);
-            let packing = noted_packing(words);
-            SampledCore::Answered(after, landing, packing)
-        }
-    }
+    refusal_of(bad, core.output.counts.samples, memory, start, &one)?;
+    let mut answer = no_answer();
+    let core = steps(core, slots, &mut memory[start..], &mut answer, &one);
+    answer.landing = in_memory(start, answer.landing);
+    Ok(SampledCore { core, answer })
 }

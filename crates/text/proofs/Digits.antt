@@ -1,11 +1,13 @@
 -- Decimal: one digit below 10, else those of the tenth and then the last; how many digits there are. Assumes nothing.
 use mathlib.Core.Bool.{Bool, true, false, cond}
 use mathlib.Core.List.{List, [], ◌∷◌, ◌++◌}
-use mathlib.Core.Path.{◌≡◌, refl, ap}
-use Prim.Native.Nat.{ℕ, zero, suc, ◌/◌, ◌%◌, ◌^◌, ◌≤◌, ◌<◌}
+use mathlib.Core.Path.{◌≡◌, refl, sym, ap}
+use Prim.Native.Nat.{ℕ, zero, suc, ◌-◌, ◌/◌, ◌%◌, ◌^◌, ◌≤◌, ◌<◌}
+use native.Mathlib.Numerals.{add-one}
 use native.Mathlib.Omega.{arith}
 use lib.Dec.{ltb}
-use lib.ListN.{length, length-append}
+use lib.ListN.{length, set, drop, length-append}
+use Rattle.std.proofs.lemmas.List.{append_assoc, drop-set}
 use borrow.Author.Tests.{lt-ltb, le-ltb}
 use Rattle.text.specs.Text.{digit, decimal_within, decimal, hex}
 
@@ -40,11 +42,21 @@ within_length (suc n) x = go (ltb x 10) (within_length n (x / 10))
     go true tenth = omega arith
     go false tenth = rw length-append (omega arith)
 
-pub decimal_length : (n x : ℕ) → x < 10 ^ suc n → x < 10 ^ 20 → length (decimal x) ≤ suc n
+pub decimal_short : (x : ℕ) → length (decimal x) ≤ 20
 unfolding decimal
-decimal_length n x low most = rw (same_within 19 n x most low) (within_length n x)
+decimal_short x = within_length 19 x
 
 pub hex_length : (n x : ℕ) → length (hex n x) ≡ n
 unfolding hex
 hex_length zero x = refl
 hex_length (suc n) x = rw (length-append, hex_length n (x / 16)) (omega arith)
+
+-- One digit more, from the last one on: the one before place i is put there, and stands before those from i on.
+pub hex_before : (i rest d : ℕ) (digits : List ℕ) → 0 < i → i - 1 < length digits → d ≡ digit (rest % 16)
+    → hex (i - 1) (rest / 16) ++ drop (i - 1) (set digits (i - 1) d) ≡ hex i rest ++ drop i digits
+unfolding hex
+hex_before zero rest d digits some within is = absurd (omega arith)
+hex_before (suc j) rest d digits some within is =
+    let before : suc j - 1 ≡ j = omega arith in
+    let fits : j < length digits = omega arith in
+    rw (before, drop-set digits j d fits, is, add-one) (sym (append_assoc (hex j (rest / 16)) (digit (rest % 16) ∷ []) (drop (suc j) digits)))

@@ -1,5 +1,5 @@
 // Text: bytes, and numbers in decimal, in a lent buffer from a byte on; hexadecimal digits. What is put is as much as fits; the answer is the place behind it, and every other byte stays. Each function
-// answers for every buffer, place and number.
+// answers for every buffer, place and number. The buffer is lent with a place in it, and no `String` is made: the frame printer's memory is fixed, with no heap (request W7).
 #![tactic(auto)]
 
 ghost use Rattle.std.specs.Prelude.{[], ◌∷◌, ◌≡◌, ◌<◌};
@@ -22,10 +22,8 @@ pub fn put(bytes: &[u8], buffer: &mut [u8], at: usize) -> usize
     ensures { putting_rules.putting result buffer.new ≡ putting_rules.put bytes.now at buffer.old }
 {
     let mut place = at;
-    let mut i = 0;
-    while i < bytes.len() {
-        place = put_byte(bytes[i], buffer, place);
-        i += 1;
+    for &b in bytes {
+        place = put_byte(b, buffer, place);
     }
     place
 }
@@ -35,10 +33,10 @@ fn digit(x: u64) -> u8
     requires { x < 16 }
     ensures { result ≡ text_rules.digit x }
 {
-    if x < 10 {
-        return (48 + x) as u8;
+    match x {
+        0..=9 => b'0' + x as u8,
+        _ => b'A' + (x - 10) as u8,
     }
-    (55 + x) as u8
 }
 
 // A number in decimal, with no zero in front.
@@ -52,32 +50,15 @@ pub fn put_decimal(x: u64, buffer: &mut [u8], at: usize) -> usize
     put_byte(digit(x % 10), buffer, place)
 }
 
-// The two, and the eight, lowest hexadecimal digits of a number.
-pub fn two_digits(x: u64) -> [u8; 2]
-    ensures { result ≡ text_rules.hex 2 x }
+// The N lowest hexadecimal digits of a number, highest first. By index, from the last on: the invariant is what stands from there on, and over `iter_mut` it is no plainer.
+pub fn hex_digits<const N: usize>(x: u64) -> [u8; N]
+    ensures { result ≡ text_rules.hex N x }
 {
-    let high = digit(x / 16 % 16);
-    let low = digit(x % 16);
-    [high, low]
-}
-
-pub fn eight_digits(x: u64) -> [u8; 8]
-    ensures { result ≡ text_rules.hex 8 x }
-{
-    let x1 = x / 16;
-    let x2 = x1 / 16;
-    let x3 = x2 / 16;
-    let x4 = x3 / 16;
-    let x5 = x4 / 16;
-    let x6 = x5 / 16;
-    let x7 = x6 / 16;
-    let a = digit(x7 % 16);
-    let b = digit(x6 % 16);
-    let c = digit(x5 % 16);
-    let d = digit(x4 % 16);
-    let e = digit(x3 % 16);
-    let f = digit(x2 % 16);
-    let g = digit(x1 % 16);
-    let h = digit(x % 16);
-    [a, b, c, d, e, f, g, h]
+    let mut digits = [b'0'; N];
+    let mut rest = x;
+    for i in (0..N).rev() {
+        digits[i] = digit(rest % 16);
+        rest /= 16;
+    }
+    digits
 }

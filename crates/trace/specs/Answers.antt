@@ -1,10 +1,11 @@
 -- The paper's values of each case of the answer of samples many at a time.
+use Rattle.std.specs.Prelude.{ℕ, zero, suc, Result, Ok, Err}
+use Rattle.refusals.specs.declared.Refusal.{Refusal}
 use Rattle.refusals.specs.Table.{number}
 use Rattle.trace.specs.Decoding as decodings
-use Rattle.trace.specs.declared.Samples.{Samples}
-use Rattle.trace.specs.declared.Samples.TheVariants as samples_cases
 
-abbrev pub samples : Samples → decodings.Samples
-samples (samples_cases.Many n) = decodings.many n
-samples samples_cases.End = decodings.the_end
-samples (samples_cases.Refused e) = decodings.refused (number e)
+-- How many they are, and 0 at the end.
+abbrev pub samples : Result ℕ Refusal → decodings.Samples
+samples (Ok zero) = decodings.the_end
+samples (Ok (suc n)) = decodings.many (suc n)
+samples (Err e) = decodings.refused (number e)

@@ -10,12 +10,3 @@ pub use decoding::{check_file, sample_in, samples_at, write_in};
 pub use form::{
     check_form, check_header, form_of, header_length, sample_count, samples_start, write_count,
 };
-use refusals::Refusal;
-
-// Samples many at a time: so many of them, at the front of an array; the end; or a refusal.
-#[derive(Clone, Copy)]
-pub enum Samples {
-    Many(usize),
-    End,
-    Refused(Refusal),
-}

@@ -8,7 +8,7 @@ use borrow.Author.Tests.{lt-ltb, le-ltb}
 use Rattle.numbers.specs.Numbers.{Bytes, number_at}
 use Rattle.trace_format.specs.declared.Write.{Write}
 use Rattle.trace_format.specs.Format.{sample_size, encode}
-use Rattle.trace_format.specs.Reading.{sample_start, Item, a_write, a_sample, the_end, refused, checked, item, past, write_count, sample_count, form_refusal, write_at, sample_at, writes_of, samples_of}
+use Rattle.trace_format.specs.Reading.{sample_start, a_write, the_end, checked, item, write_count, sample_count, form_refusal, write_at, sample_at, writes_of, samples_of}
 use Rattle.trace_format.proofs.Rewritten.{rewritten}
 
 -- The places below the number of writes hold the writes, in order.
@@ -32,18 +32,6 @@ sample_here f at k e = rw e
 pub end_place : (f : List ℕ) (k : ℕ) → write_count f + sample_count f ≤ k → item f k ≡ the_end
 unfolding item
 end_place f k h = rw (le-ltb k (write_count f) (omega arith), le-ltb _ _ h)
-
--- An equation between different constructors is absurd, by way of this one.
-pub clash : ◌≡◌ {A = ℕ} 0 1 → ⊥
-clash e = absurd (omega arith)
-
--- A place moves by one at most.
-pub past_next : (place : ℕ) (it : Item) → past place it ≤ place + 1
-unfolding past
-past_next place (a_write w) = omega arith
-past_next place (a_sample w) = omega arith
-past_next place the_end = omega arith
-past_next place (refused n) = omega arith
 
 -- Two accepted files with the same writes and the same samples are the same file.
 pub content_decides : (f g : List ℕ) → Bytes f → Bytes g → form_refusal f ≡ 0 → form_refusal g ≡ 0

@@ -10,36 +10,35 @@ ghost use Rattle.trace_format.specs.Format as format;
 use numbers::put;
 
 // A register write as a file has it: any offset byte, any 32-bit value.
-#[derive(Clone, Copy)]
+#[derive(Clone, Copy, Debug, PartialEq, Eq)]
 pub struct Write {
     pub offset: u8,
     pub value: u32,
 }
+
+// The bytes that a file begins with.
+pub const MARK: [u8; 3] = *b"FGT";
 
 // The bytes of a write and of a sample.
 pub const WRITE_SIZE: usize = 5;
 
 pub const SAMPLE_SIZE: usize = 3;
 
-// The version of a file with that many samples: 1 up to 16,384, 2 above.
+// The version of a file with that many samples: 1 up to 16,384, 2 above. It is the number that the file has, as the definitions have it.
+#[tactic(auto, unfolding(crate::specs::Format::version_for))]
 pub fn version_for(samples: usize) -> u32
     ensures { result ≡ format.version_for samples }
 {
-    if 16384 < samples {
-        return 2;
-    }
-    1
+    if 16384 < samples { 2 } else { 1 }
 }
 
 // The bytes of the number of samples in a version, and of the header.
+#[tactic(auto, unfolding(crate::specs::Format::count_size))]
 pub fn count_size(version: u32) -> usize
     ensures value { result ≡ format.count_size version }
     ensures upper_bound { result ≤ 4 }
 {
-    if version == 2 {
-        return 4;
-    }
-    2
+    if version == 2 { 4 } else { 2 }
 }
 
 pub fn header_size(version: u32) -> usize
@@ -63,7 +62,7 @@ pub fn put_header(out: &mut [u8], writes: u32, samples: u32)
     ensures { out.new ≡ sets out.old 0 (format.header writes samples) }
 {
     let version = version_for(samples as usize);
-    put(out, 0, 3, 0x544746);
+    out[..3].copy_from_slice(&MARK);
     put(out, 3, 2, version);
     put(out, 5, 1, writes);
     put(out, 6, count_size(version), samples);

@@ -6,22 +6,20 @@ mod items;
 mod reader;
 
 pub use items::item_at;
-pub use reader::{Reader, next, open, place, read_once};
+pub use reader::{Reader, read_once};
 use refusals::Refusal;
 use trace_format::Write;
 
-// What stands at a place of a file.
-#[derive(Clone, Copy)]
+// What stands at a place of a file. The end is `None`.
+#[derive(Clone, Copy, Debug, PartialEq, Eq)]
 pub enum Item {
     Write(Write),
     Sample(u32),
-    End,
-    Refused(Refusal),
 }
 
 // What a reader found at its place, and its place afterwards.
-#[derive(Clone, Copy)]
+#[derive(Clone, Copy, Debug, PartialEq, Eq)]
 pub struct Read {
-    pub item: Item,
+    pub item: Result<Option<Item>, Refusal>,
     pub place: usize,
 }

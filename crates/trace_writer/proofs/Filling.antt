@@ -1,33 +1,28 @@
 -- A buffer that is being filled with writes and with samples: what the writer's loops keep. Assumes nothing.
 use mathlib.Core.List.{List, [], ◌++◌}
-use mathlib.Core.Path.{◌≡◌, refl, sym, ap, ◌∙◌}
-use Prim.Native.Nat.{ℕ, zero, suc, ◌+◌, ◌-◌, ◌*◌, ◌≤◌, ◌<◌}
+use mathlib.Core.Path.{◌≡◌, refl, sym, ◌∙◌}
+use Prim.Native.Nat.{ℕ, ◌+◌, ◌*◌, ◌≤◌, ◌<◌}
 use native.Mathlib.Nat.{zero-add}
 use native.Mathlib.Numerals.{add-one}
 use native.Mathlib.Omega.{arith}
-use lib.ListN.{length, get_or, drop, length-append, length-drop, drop_of_length-le}
+use lib.ListN.{length, get_or, drop, length-append, drop_of_length-le}
 use lib.Seq.{sets, drop-cons}
 use Rattle.numbers.specs.Numbers.{little}
 use Rattle.numbers.proofs.Numbers.{length_little}
 use Rattle.numbers.proofs.Putting.{sets_append, Filling, fill_on}
 use Rattle.trace_format.specs.declared.Write.{Write}
 use Rattle.trace_format.specs.Format.{version_for, header_length, write_size, sample_size, write_start, write_bytes, sample_bytes, header, encode}
-use Rattle.trace_writer.specs.Writing.{given, given_from}
 use Rattle.trace_format.proofs.ReadBack.{length_write_bytes, length_sample_bytes, length_header}
 
 -- The first write's bytes and the first sample's, and what is left after them.
-pub first_write : (offsets values : List ℕ) (k n : ℕ) → k < n
-    → write_bytes (given_from offsets values k (n - k)) ≡ little 1 (get_or offsets k 0) ++ little 4 (get_or values k 0) ++ write_bytes (given_from offsets values (k + 1) (n - (k + 1)))
-unfolding write_bytes given_from
-first_write offsets values k n h =
-    let e : n - k ≡ suc (n - (k + 1)) = omega arith in
-    rw (e, add-one)
+pub first_write : (writes : List Write) (k : ℕ) (d : Write) → k < length writes
+    → write_bytes (drop k writes) ≡ little 1 (get_or writes k d).offset ++ little 4 (get_or writes k d).value ++ write_bytes (drop (k + 1) writes)
+unfolding write_bytes
+first_write writes k d h = rw (drop-cons writes k d h, add-one)
 
-pub no_writes : (offsets values : List ℕ) (k n : ℕ) → n ≤ k → write_bytes (given_from offsets values k (n - k)) ≡ []
-unfolding write_bytes given_from
-no_writes offsets values k n h =
-    let e : n - k ≡ 0 = omega arith in
-    rw e
+pub no_writes : (writes : List Write) (k : ℕ) → length writes ≤ k → write_bytes (drop k writes) ≡ []
+unfolding write_bytes
+no_writes writes k h = rw (drop_of_length-le writes h)
 
 pub first_sample : (samples : List ℕ) (k : ℕ) → k < length samples → sample_bytes (drop k samples) ≡ little sample_size (get_or samples k 0) ++ sample_bytes (drop (k + 1) samples)
 unfolding sample_bytes
@@ -37,35 +32,17 @@ pub no_samples : (samples : List ℕ) (k : ℕ) → length samples ≤ k → sam
 unfolding sample_bytes
 no_samples samples k h = rw (drop_of_length-le samples h)
 
--- As many writes are given as the count says.
-pub length_given : (offsets values : List ℕ) (k n : ℕ) → length (given_from offsets values k n) ≡ n
-unfolding given_from
-length_given offsets values k zero = refl
-length_given offsets values k (suc n) = ap suc (length_given offsets values (suc k) n)
-
--- There is room for the next write, and for the next sample.
-pub write_room : (whole out offsets values : List ℕ) (at k n : ℕ)
-    → Filling whole out (at + write_size * k) (write_bytes (given_from offsets values k (n - k))) → k < n → at + write_size * k + write_size ≤ length out
-write_room whole out offsets values at k n f h =
-    let all : length (write_bytes (given_from offsets values k (n - k))) ≡ write_size * (n - k) = length_write_bytes (given_from offsets values k (n - k)) ∙ ap (λ (x : ℕ). write_size * x) (length_given offsets values k (n - k)) in
-    omega (arith, f.room)
-
-pub sample_room : (whole out samples : List ℕ) (at k : ℕ)
-    → Filling whole out (at + sample_size * k) (sample_bytes (drop k samples)) → k < length samples → at + sample_size * k + sample_size ≤ length out
-sample_room whole out samples at k f h =
-    let all : length (sample_bytes (drop k samples)) ≡ sample_size * (length samples - k) = length_sample_bytes (drop k samples) ∙ ap (λ (x : ℕ). sample_size * x) (length-drop k samples) in
-    omega (arith, f.room)
-
 -- One write further, and one sample.
-pub write_on : (whole out out' offsets values : List ℕ) (at k n : ℕ)
-    → Filling whole out (at + write_size * k) (write_bytes (given_from offsets values k (n - k))) → k < n
-    → out' ≡ sets out (at + write_size * k) (little 1 (get_or offsets k 0) ++ little 4 (get_or values k 0))
-    → Filling whole out' (at + write_size * (k + 1)) (write_bytes (given_from offsets values (k + 1) (n - (k + 1))))
-write_on whole out out' offsets values at k n f h e =
-    let o : List ℕ = little 1 (get_or offsets k 0) in
-    let v : List ℕ = little 4 (get_or values k 0) in
-    let five : length (o ++ v) ≡ write_size = rw (length-append o v, length_little 1 (get_or offsets k 0), length_little 4 (get_or values k 0)) in
-    fill_on whole out out' (at + write_size * k) (at + write_size * (k + 1)) _ (o ++ v) _ f (first_write offsets values k n h) e (omega (arith, five))
+pub write_on : (whole out out' : List ℕ) (writes : List Write) (at k : ℕ) (d : Write)
+    → Filling whole out (at + write_size * k) (write_bytes (drop k writes)) → k < length writes
+    → out' ≡ sets out (at + write_size * k) (little 1 (get_or writes k d).offset ++ little 4 (get_or writes k d).value)
+    → Filling whole out' (at + write_size * (k + 1)) (write_bytes (drop (k + 1) writes))
+write_on whole out out' writes at k d f h put =
+    let w : Write = get_or writes k d in
+    let o : List ℕ = little 1 w.offset in
+    let v : List ℕ = little 4 w.value in
+    let five : length (o ++ v) ≡ write_size = rw (length-append o v, length_little 1 w.offset, length_little 4 w.value) in
+    fill_on whole out out' (at + write_size * k) (at + write_size * (k + 1)) _ (o ++ v) _ f (first_write writes k d h) put (omega (arith, five))
 
 pub sample_on : (whole out out' samples : List ℕ) (at k : ℕ)
     → Filling whole out (at + sample_size * k) (sample_bytes (drop k samples)) → k < length samples
@@ -75,12 +52,11 @@ sample_on whole out out' samples at k f h e =
     fill_on whole out out' (at + sample_size * k) (at + sample_size * (k + 1)) _ (little sample_size (get_or samples k 0)) (sample_bytes (drop (k + 1) samples)) f (first_sample samples k h) e (omega (arith, length_little sample_size (get_or samples k 0)))
 
 -- Where the writes, and the samples, begin.
-pub writes_start : (out offsets values : List ℕ) (at n : ℕ) → at + write_size * n ≤ length out
-    → Filling (sets out at (write_bytes (given n offsets values))) out (at + write_size * 0) (write_bytes (given_from offsets values 0 (n - 0)))
-writes_start out offsets values at n h =
-    let e : n - 0 ≡ n = omega arith in
+pub writes_start : (out : List ℕ) (writes : List Write) (at : ℕ) → at + write_size * length writes ≤ length out
+    → Filling (sets out at (write_bytes writes)) out (at + write_size * 0) (write_bytes (drop 0 writes))
+writes_start out writes at h =
     let z : at + write_size * 0 ≡ at = omega arith in
-    rw (e, z) (record { leads = refl; room = rw (length_write_bytes (given n offsets values), length_given offsets values 0 n) h })
+    rw z (record { leads = refl; room = rw (length_write_bytes writes) h })
 
 pub samples_start : (out samples : List ℕ) (at : ℕ) → at + sample_size * length samples ≤ length out
     → Filling (sets out at (sample_bytes samples)) out (at + sample_size * 0) (sample_bytes (drop 0 samples))

@@ -8,37 +8,28 @@ ghost use Rattle.trace_format.specs.Format as format;
 ghost use Rattle.trace_writer.specs.Writing as writing;
 ghost use Rattle.trace_writer.specs.Answers as writer_answers;
 
-use numbers::{put, wide};
+use numbers::put;
 use refusals::Refusal;
 use samples::any_bad;
-use trace_format::{SAMPLE_SIZE, WRITE_SIZE, header_for, put_header};
-
-// Its answer: the length of the file that it wrote, or why it wrote none.
-#[derive(Clone, Copy)]
-pub enum Written {
-    Length(usize),
-    Refused(Refusal),
-}
+use trace_format::{SAMPLE_SIZE, WRITE_SIZE, Write, header_for, put_header};
 
 // The offset and the value of a write, from a byte on.
-fn put_write(out: &mut [u8], at: usize, offset: u8, value: u32)
+#[tactic(auto, using(numbers::proofs::Numbers::length_little, numbers::proofs::Putting::sets_append))]
+fn put_write(out: &mut [u8], at: usize, write: Write)
     requires { at + format.write_size ≤ length out.old }
-    ensures { out.new ≡ sets out.old at (little 1 offset ++ little 4 value) }
+    ensures { out.new ≡ sets out.old at (little 1 write.offset ++ little 4 write.value) }
 {
-    put(out, at, 1, wide(offset));
-    put(out, at + 1, 4, value);
+    put(out, at, 1, write.offset as u32);
+    put(out, at + 1, 4, write.value);
 }
 
-// The writes, from a byte on.
-fn put_writes(out: &mut [u8], at: usize, count: usize, offsets: &[u8; 255], values: &[u32; 255])
-    requires count_bound { count ≤ 255 }
-    requires count_in_bounds { at + format.write_size * count ≤ length out.old }
-    ensures { out.new ≡ sets out.old at (format.write_bytes (writing.given count offsets.now values.now)) }
+// The writes, from a byte on. (By index, and the samples too: over `out[at..].chunks_exact_mut(..).zip(..)` an invariant has no buffer to speak of; tried, and not proved.)
+fn put_writes(out: &mut [u8], at: usize, writes: &[Write])
+    requires { at + format.write_size * length writes.now ≤ length out.old }
+    ensures { out.new ≡ sets out.old at (format.write_bytes writes.now) }
 {
-    let mut i = 0;
-    while i < count {
-        put_write(out, at + WRITE_SIZE * i, offsets[i], values[i]);
-        i += 1;
+    for (i, write) in writes.iter().enumerate() {
+        put_write(out, at + WRITE_SIZE * i, *write);
     }
 }
 
@@ -47,49 +38,43 @@ fn put_samples(out: &mut [u8], at: usize, samples: &[u32])
     requires { at + format.sample_size * length samples.now ≤ length out.old }
     ensures { out.new ≡ sets out.old at (format.sample_bytes samples.now) }
 {
-    let mut i = 0;
-    while i < samples.len() {
-        put(out, at + SAMPLE_SIZE * i, SAMPLE_SIZE, samples[i]);
-        i += 1;
+    for (i, sample) in samples.iter().enumerate() {
+        put(out, at + SAMPLE_SIZE * i, SAMPLE_SIZE, *sample);
     }
 }
 
 // The whole file, from the first byte on.
-fn put_file(out: &mut [u8], count: usize, offsets: &[u8; 255], values: &[u32; 255], samples: &[u32])
-    requires { (count ≤ 255) × (length samples.now ≤ format.sample_limit) × (format.write_start (format.version_for (length samples.now)) count + format.sample_size * length samples.now ≤ length out.old) }
-    ensures { out.new ≡ sets out.old 0 (format.encode (writing.given count offsets.now values.now) samples.now) }
+#[tactic(auto, using(crate::proofs::Filling::file_put))]
+fn put_file(out: &mut [u8], writes: &[Write], samples: &[u32])
+    requires { (length writes.now ≤ 255) × (length samples.now ≤ format.sample_limit) × (format.write_start (format.version_for (length samples.now)) (length writes.now) + format.sample_size * length samples.now ≤ length out.old) }
+    ensures { out.new ≡ sets out.old 0 (format.encode writes.now samples.now) }
 {
     let header = header_for(samples.len());
-    put_header(out, count as u32, samples.len() as u32);
-    put_writes(out, header, count, offsets, values);
-    put_samples(out, header + WRITE_SIZE * count, samples);
+    put_header(out, writes.len() as u32, samples.len() as u32);
+    put_writes(out, header, writes);
+    put_samples(out, header + WRITE_SIZE * writes.len(), samples);
 }
 
-// A trace file of the first writes, as many as the count says, and the samples, in the version that their number says: its length, or a refusal, 14,
-// 12, 7 or 15. Refused, every byte of the buffer stays; accepted, the bytes after the file stay.
-pub fn encode(
-    count: usize,
-    offsets: &[u8; 255],
-    values: &[u32; 255],
-    samples: &[u32],
-    out: &mut [u8],
-) -> Written
-    ensures { writer_answers.written result out.new ≡ writing.write (writing.given count offsets.now values.now) samples.now out.old }
+// A trace file of the writes and the samples, in the version that the number of samples says: its length, or a refusal, 14, 12, 7 or 15. Refused, every byte of the buffer
+// stays; accepted, the bytes after the file stay.
+#[tactic(auto, using(trace_format::proofs::ReadBack::length_encode, numbers::proofs::Putting::put_over), unfolding(crate::specs::Writing::write, crate::specs::Writing::writer_refusal))]
+pub fn encode(writes: &[Write], samples: &[u32], out: &mut [u8]) -> Result<usize, Refusal>
+    ensures { writer_answers.written result out.new ≡ writing.write writes.now samples.now out.old }
 {
-    if 255 < count {
-        return Written::Refused(Refusal::WriteCount);
+    if 255 < writes.len() {
+        return Err(Refusal::WriteCount);
     }
     if 4294967295 < samples.len() {
-        return Written::Refused(Refusal::SampleCount);
+        return Err(Refusal::SampleCount);
     }
     if any_bad(samples) {
-        return Written::Refused(Refusal::SampleBits);
+        return Err(Refusal::SampleBits);
     }
     let header = header_for(samples.len());
-    let length = header + WRITE_SIZE * count + SAMPLE_SIZE * samples.len();
+    let length = header + WRITE_SIZE * writes.len() + SAMPLE_SIZE * samples.len();
     if out.len() < length {
-        return Written::Refused(Refusal::Room);
+        return Err(Refusal::Room);
     }
-    put_file(out, count, offsets, values, samples);
-    Written::Length(length)
+    put_file(out, writes, samples);
+    Ok(length)
 }

@@ -1,19 +1,13 @@
-// W2, two frame buffers in turn, in code (crate `buffers` has the definitions). The functions are for the crates of this repository; each states its result as an equation with its definition.
+// W2, two frame buffers in turn, in code (crate `buffers` has the definitions). The functions are for the crates of this repository; each states its result as an equation with its
+// definition. They are no methods, since the crate of the types has no code.
+// No type holds `held < 32`: the number held is a field of `Output`, which in a malformed device may be any, and refusal 1 and the laws speak of such devices.
 #![tactic(auto)]
 
 ghost use Rattle.std.specs.Prelude.{cond, ◌≡◌, ◌+◌, ◌<◌, ◌^◌};
 ghost use Rattle.buffers.specs.Turns as turn_rules;
 ghost use Rattle.buffers.specs.declared.Content.TheVariants.{Landing};
-ghost use Rattle.turning.specs.Answers as buffer_answers;
 
 use buffers::{Buffer, Content, Turns};
-
-// The buffer of the latest complete frame, if there is one.
-#[derive(Clone, Copy)]
-pub enum Latest {
-    Nothing,
-    In(Buffer),
-}
 
 // The other buffer.
 pub fn other(u: Buffer) -> Buffer
@@ -28,10 +22,7 @@ pub fn other(u: Buffer) -> Buffer
 fn is_b(u: Buffer) -> bool
     ensures { result ≡ turn_rules.is_b u }
 {
-    match u {
-        Buffer::A => false,
-        Buffer::B => true,
-    }
+    u == Buffer::B
 }
 
 // Where the mode has just been set to two.
@@ -53,46 +44,36 @@ pub fn fresh_turns() -> Turns
 fn with_turn(turn: Buffer, begun: bool, t: Turns) -> Turns
     ensures { result ≡ turn_rules.with_turn turn begun t }
 {
-    let a = t.a;
-    let b = t.b;
-    let latest = t.latest;
-    Turns {
-        place: t.place,
-        in_b: t.in_b,
-        opening: t.opening,
-        turn,
-        begun,
-        a,
-        b,
-        latest,
-    }
+    Turns { turn, begun, ..t }
 }
 
-pub fn with_tags(in_b: u32, opening: u32, mut t: Turns) -> Turns
+pub fn with_tags(in_b: u32, opening: u32, t: Turns) -> Turns
     ensures { result ≡ turn_rules.with_tags in_b opening t }
 {
-    t.in_b = in_b;
-    t.opening = opening;
-    t
+    Turns { in_b, opening, ..t }
 }
 
 // Rule 9 is reached: a frame's first word switches to the other buffer.
 pub fn first_word(t: Turns) -> Turns
     ensures { result ≡ turn_rules.first_word t }
 {
-    let turn = t.turn;
     if t.begun {
-        return t;
+        t
+    } else {
+        with_turn(other(t.turn), true, t)
     }
-    with_turn(other(turn), true, t)
 }
 
 // The held words are discarded, and the open frame is gone.
 pub fn discarded(t: Turns) -> Turns
     ensures { result ≡ turn_rules.discarded t }
 {
-    let turn = t.turn;
-    with_turn(turn, false, with_tags(0, 0, t))
+    Turns {
+        in_b: 0,
+        opening: 0,
+        begun: false,
+        ..t
+    }
 }
 
 pub fn word_lost(t: Turns) -> Turns
@@ -106,9 +87,10 @@ pub fn oldest_buffer(t: Turns) -> Buffer
     ensures { result ≡ turn_rules.oldest_buffer t }
 {
     if t.in_b % 2 == 1 {
-        return Buffer::B;
+        Buffer::B
+    } else {
+        Buffer::A
     }
-    Buffer::A
 }
 
 pub fn oldest_opens(t: Turns) -> bool
@@ -130,10 +112,7 @@ fn marked(mark: bool, held: u32, x: u32) -> u32
     requires { (held < 32) × (x + 2 ^ held < 2 ^ 32) }
     ensures { result ≡ cond mark (x + 2 ^ held) x }
 {
-    if mark {
-        return x + bit_behind(held);
-    }
-    x
+    if mark { x + bit_behind(held) } else { x }
 }
 
 // A word is held, behind so many others. For the crates above, which hold at most 32.
@@ -142,8 +121,7 @@ pub fn word_held(held: u32, t: Turns) -> Turns
     ensures { result ≡ turn_rules.word_held held t }
 {
     let u = first_word(t);
-    let turn = u.turn;
-    let in_b = marked(is_b(turn), held, u.in_b);
+    let in_b = marked(is_b(u.turn), held, u.in_b);
     let opening = marked(!t.begun, held, u.opening);
     with_tags(in_b, opening, u)
 }
@@ -161,60 +139,22 @@ fn known(u: Buffer, t: Turns) -> Content
 pub fn with_content(u: Buffer, c: Content, t: Turns) -> Turns
     ensures { result ≡ turn_rules.with_content u c t }
 {
-    let turn = t.turn;
-    let a = t.a;
-    let b = t.b;
-    let latest = t.latest;
     match u {
-        Buffer::A => Turns {
-            place: t.place,
-            in_b: t.in_b,
-            opening: t.opening,
-            turn,
-            begun: t.begun,
-            a: c,
-            b,
-            latest,
-        },
-        Buffer::B => Turns {
-            place: t.place,
-            in_b: t.in_b,
-            opening: t.opening,
-            turn,
-            begun: t.begun,
-            a,
-            b: c,
-            latest,
-        },
+        Buffer::A => Turns { a: c, ..t },
+        Buffer::B => Turns { b: c, ..t },
     }
 }
 
 fn with_latest(latest: Buffer, t: Turns) -> Turns
     ensures { result ≡ turn_rules.with_latest latest t }
 {
-    let turn = t.turn;
-    let a = t.a;
-    let b = t.b;
-    Turns {
-        place: t.place,
-        in_b: t.in_b,
-        opening: t.opening,
-        turn,
-        begun: t.begun,
-        a,
-        b,
-        latest,
-    }
+    Turns { latest, ..t }
 }
 
 fn is_landing(c: Content) -> bool
     ensures { result ≡ turn_rules.is_landing c }
 {
-    match c {
-        Content::Nothing => false,
-        Content::Landing => true,
-        Content::Complete => false,
-    }
+    c == Content::Landing
 }
 
 // The frame in a buffer has ended, and no word of it is held.
@@ -222,28 +162,27 @@ fn frame_over(u: Buffer, t: Turns) -> Turns
     ensures { result ≡ turn_rules.frame_over u t }
 {
     if is_landing(known(u, t)) {
-        return with_latest(u, with_content(u, Content::Complete, t));
+        with_latest(u, with_content(u, Content::Complete, t))
+    } else {
+        t
     }
-    t
 }
 
 // The word that landed was the last of a frame that has ended.
 fn last_of_frame(held: u32, t: Turns) -> bool
     ensures { result ≡ turn_rules.last_of_frame held t }
 {
-    if 0 < held {
-        return oldest_opens(t);
-    }
-    !t.begun
+    if 0 < held { oldest_opens(t) } else { !t.begun }
 }
 
 fn opened(opens: bool, u: Buffer, t: Turns) -> Turns
     ensures { result ≡ cond opens (turn_rules.with_content u Landing t) t }
 {
     if opens {
-        return with_content(u, Content::Landing, t);
+        with_content(u, Content::Landing, t)
+    } else {
+        t
     }
-    t
 }
 
 // The oldest of so many held words has landed.
@@ -254,48 +193,44 @@ pub fn word_landed(held: u32, t: Turns) -> Turns
     let u = oldest_buffer(t);
     let l = with_tags(t.in_b / 2, t.opening / 2, opened(oldest_opens(t), u, t));
     if last_of_frame(held - 1, l) {
-        return frame_over(u, l);
+        frame_over(u, l)
+    } else {
+        l
     }
-    l
 }
 
 // Rule 4 ends the open frame, with so many words held.
 pub fn frame_ended(held: u32, t: Turns) -> Turns
     ensures { result ≡ turn_rules.frame_ended held t }
 {
-    let turn = t.turn;
-    if t.begun {
-        if 0 < held {
-            return with_turn(turn, false, t);
-        }
-        let over = frame_over(turn, t);
-        return with_turn(turn, false, over);
-    }
-    with_turn(turn, false, t)
+    let after = if t.begun && held == 0 {
+        frame_over(t.turn, t)
+    } else {
+        t
+    };
+    with_turn(t.turn, false, after)
 }
 
 // Re-arming.
 pub fn rearmed(t: Turns) -> Turns
     ensures { result ≡ turn_rules.rearmed t }
 {
-    let mut after = with_content(
-        Buffer::A,
-        Content::Nothing,
-        with_content(Buffer::B, Content::Nothing, t),
-    );
-    after.place = 0;
-    after
+    Turns {
+        place: 0,
+        a: Content::Nothing,
+        b: Content::Nothing,
+        ..t
+    }
 }
 
 // The place at which the oldest held word lands, A's next place being given.
 pub fn oldest_place(place_a: u32, t: Turns) -> u32
     ensures { result ≡ turn_rules.oldest_place place_a t }
 {
-    let u = oldest_buffer(t);
     if oldest_opens(t) {
         return 0;
     }
-    match u {
+    match oldest_buffer(t) {
         Buffer::A => place_a,
         Buffer::B => t.place,
     }
@@ -304,24 +239,20 @@ pub fn oldest_place(place_a: u32, t: Turns) -> u32
 fn is_complete(c: Content) -> bool
     ensures { result ≡ turn_rules.is_complete c }
 {
-    match c {
-        Content::Nothing => false,
-        Content::Landing => false,
-        Content::Complete => true,
-    }
+    c == Content::Complete
 }
 
 // The frame that became complete last, or else the other.
-pub fn latest_complete(t: Turns) -> Latest
-    ensures { buffer_answers.latest result ≡ turn_rules.latest_complete t }
+pub fn latest_complete(t: Turns) -> Option<Buffer>
+    ensures { result ≡ turn_rules.latest_complete t }
 {
     let last = t.latest;
     if is_complete(known(last, t)) {
-        return Latest::In(last);
+        return Some(last);
     }
     let before = other(last);
     if is_complete(known(before, t)) {
-        return Latest::In(before);
+        return Some(before);
     }
-    Latest::Nothing
+    None
 }

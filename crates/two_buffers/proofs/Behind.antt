@@ -2,7 +2,7 @@
 -- before and after it. The idea: tags behind the oldest word leave its own. Assumes nothing.
 use mathlib.Core.Bool.{Bool, true, false, cond, not, true≢false}
 use mathlib.Core.List.{List}
-use mathlib.Core.Option.{none}
+use Rattle.std.specs.Prelude.{None}
 use mathlib.Core.Path.{◌≡◌, refl, sym, ap, ◌∙◌}
 use Prim.Native.Nat.{ℕ, zero, suc, ◌+◌, ◌-◌, ◌*◌, ◌/◌, ◌%◌, ◌^◌, ◌≤◌, ◌<◌}
 use native.Mathlib.Numerals.{add-one}
@@ -19,7 +19,9 @@ use Rattle.buffers.specs.declared.Buffer.TheVariants.{A, B}
 use Rattle.buffers.specs.declared.Turns.{Turns}
 use Rattle.buffers.specs.Turns.{is_b, with_turn, with_tags, first_word, word_held, discarded, word_lost, oldest_buffer, oldest_opens, next_place, oldest_place}
 use Rattle.buffers.specs.Kept.{keep, keeps}
-use Rattle.output.specs.Output.{with_place, room, Packed, nothing, completed, lost}
+use Rattle.output.specs.Output.{with_place, room}
+use Rattle.output.specs.declared.Packing.{Packing as Packed}
+use Rattle.output.specs.declared.Packing.TheVariants.{Nothing as nothing, Completed as completed, Lost as lost}
 use Rattle.rules.specs.State.{capture_of}
 use Rattle.rules.specs.Sample.{capture_sample}
 use Rattle.rules.specs.RegisterCalls.{placed}
@@ -99,8 +101,8 @@ oldest_behind h n t =
     (λ e. record { buffer = refl; opens = refl; place = refl })
 
 some_behind : (h n : ℕ) (t : Turns) → eqb h 0 ≡ false → SameOldest t (held_behind h n t)
-some_behind zero n t some = absurd (true≢false some)
-some_behind (suc h) n t some = oldest_behind h n t
+some_behind zero n t Some = absurd (true≢false Some)
+some_behind (suc h) n t Some = oldest_behind h n t
 
 same_place_of : (a : ℕ) (u : Buffer) (t s : Turns) → s.place ≡ t.place → next_place a u s ≡ next_place a u t
 same_place_of a A t s e = refl
@@ -163,7 +165,7 @@ lost_behind h n t =
     refl
 
 -- Held and discarded words after a sample in which none lands and none is lost.
-entered_kept : (q : Packed) (l : Ledger) → ¬ (q ≡ lost) → ((entered none q l).discarded ≡ l.discarded) × (l.held ≤ (entered none q l).held)
+entered_kept : (q : Packed) (l : Ledger) → ¬ (q ≡ lost) → ((entered None q l).discarded ≡ l.discarded) × (l.held ≤ (entered None q l).held)
 unfolding sample_entry landing_entry word_entry
 entered_kept nothing l kept = (refl, omega arith)
 entered_kept (completed v) l kept = (refl, omega arith)
@@ -230,7 +232,7 @@ module _ (x : Two) (stuck : no_room x.device.core.output x.turns (length x.buffe
   -- A sample's events.
   events_of : (q : Packed) (l : Ledger) (p : ℕ) → h ≤ l.held → gone l ≡ false → x.device.core.output.counts.discarded ≤ l.discarded
       → keeps (record { turns = turns_at l p; place_a = place_at l p; held = l.held }) (word_event q)
-      ≡ record { turns = turns_at (entered none q l) p; place_a = place_at (entered none q l) p; held = (entered none q l).held }
+      ≡ record { turns = turns_at (entered None q l) p; place_a = place_at (entered None q l) p; held = (entered None q l).held }
   unfolding keeps keep sample_entry landing_entry word_entry turns_behind
   events_of nothing l p le none_lost grown = refl
   events_of (completed v) l p le none_lost grown =
@@ -252,13 +254,13 @@ module _ (x : Two) (stuck : no_room x.device.core.output x.turns (length x.buffe
       let l = numbers r.device.core.output in
       let p = r.device.core.output.place in
       let (none_lands, stays) = full_landing r.device r.buffer w on.full in
-      let counts : numbers R.device.core.output ≡ entered none R.packed l = rw none_lands at (numbers_after r.device r.buffer w quiet) in
+      let counts : numbers R.device.core.output ≡ entered None R.packed l = rw none_lands at (numbers_after r.device r.buffer w quiet) in
       let same_at : R.device.core.output.place ≡ p = rw none_lands at (step_place r.device r.buffer w) in (
         rw none_lands (events_of R.packed l p on.more on.none_lost on.grown),
         λ kept.
             let (same_gone, more) = entered_kept R.packed l kept in
             let gone_is : R.device.core.output.counts.discarded ≡ l.discarded = ap (λ (n : Ledger). n.discarded) counts ∙ same_gone in
-            let held_is : R.device.core.output.held ≡ (entered none R.packed l).held = ap (λ (n : Ledger). n.held) counts in
+            let held_is : R.device.core.output.held ≡ (entered None R.packed l).held = ap (λ (n : Ledger). n.held) counts in
             record {
               grown = omega (arith, gone_is, on.grown);
               none_lost = ap (λ (k : ℕ). ltb x.device.core.output.counts.discarded k) gone_is ∙ on.none_lost;

@@ -2,7 +2,7 @@
 -- samples complete no word (`still_sample`). Assumes nothing.
 use mathlib.Core.Bool.{Bool, true, false, cond, not, ◌&&◌, beq, false≢true}
 use mathlib.Core.List.{[]}
-use mathlib.Core.Option.{Option, none, some}
+use Rattle.std.specs.Prelude.{Option, None, Some}
 use mathlib.Core.Path.{◌≡◌, refl, sym, ap, ◌∙◌, subst}
 use Prim.Native.Nat.{ℕ, ◌+◌}
 use native.Mathlib.Omega.{arith}
@@ -38,15 +38,15 @@ unfolding with_registers with_ris
 flags s now = let f = sync_flags_flagged s now in record { frame = ap (λ (t : Capture). t.frame) f.is; syncs = ap (λ (t : Capture). t.syncs) f.is }
 
 -- At a working edge with no frame open and none to start.
-none_ends : (f : Frame) (s : Capture) → f ≡ Closed → (end_of f s ≡ s) × (padded f s ≡ none)
+none_ends : (f : Frame) (s : Capture) → f ≡ Closed → (end_of f s ≡ s) × (padded f s ≡ None)
 unfolding end_of padded
 none_ends f s e = rw e (refl, refl)
 
-closed_ends : (s : Capture) (now : Syncs) → s.frame ≡ Closed → (frame_closes s now ≡ s) × (frame_pads s now ≡ none)
+closed_ends : (s : Capture) (now : Syncs) → s.frame ≡ Closed → (frame_closes s now ≡ s) × (frame_pads s now ≡ None)
 unfolding frame_closes frame_pads
 closed_ends s now e =
     let (ends, pads) = none_ends s.frame s e in
-    (either (λ (t : Capture). t ≡ s) now.vsync ends refl, either (λ (o : Option ℕ). o ≡ none) now.vsync pads refl)
+    (either (λ (t : Capture). t ≡ s) now.vsync ends refl, either (λ (o : Option ℕ). o ≡ None) now.vsync pads refl)
 
 not_started : (c v n : Bool) → v && not n ≡ false → c && v && not n ≡ false
 not_started true v n e = e
@@ -64,7 +64,7 @@ not_both : (b : Bool) → b && not b ≡ false
 not_both true = refl
 not_both false = refl
 
-edge_still : (s : Capture) (now : Syncs) (x : ℕ) → Still now.vsync s → let c = at_edge s now x in (c.word ≡ none) × Still now.vsync c.state
+edge_still : (s : Capture) (now : Syncs) (x : ℕ) → Still now.vsync s → let c = at_edge s now x in (c.word ≡ None) × Still now.vsync c.state
 unfolding at_edge frame_end no_word either_word with_syncs
 edge_still s now x still =
     let t = sync_flags s now in
@@ -113,13 +113,13 @@ no_event s c calm on = rw (calm, no_end (is_open s.frame) (is_open c.state.frame
 
 -- A sample.
 module _ (blank : Bool) (s : Capture) (w : ℕ) (plain : embedded s.registers.cr ≡ false) (level : beq (vsync_pin w) (vspol s.registers.cr) ≡ blank) where
-  pub still_sample : Still blank s → let c = capture_sample s w in (c.word ≡ none) × Still blank c.state
+  pub still_sample : Still blank s → let c = capture_sample s w in (c.word ≡ None) × Still blank c.state
   unfolding capture_sample edge no_word remember_pins with_pins blanking
   still_sample still =
       let seen : Still blank (remember_pins w s) = record { closed = still.closed; none_starts = still.none_starts } in
       rw plain
-      (either (λ (c : Captured). (c.word ≡ none) × Still blank c.state) (working_edge s w && enabled s)
-      (subst (λ (b : Bool). Still b (remember_pins w s) → let c = at_edge (remember_pins w s) (blanking s w) (pixel_data w) in (c.word ≡ none) × Still b c.state) level
+      (either (λ (c : Captured). (c.word ≡ None) × Still blank c.state) (working_edge s w && enabled s)
+      (subst (λ (b : Bool). Still b (remember_pins w s) → let c = at_edge (remember_pins w s) (blanking s w) (pixel_data w) in (c.word ≡ None) × Still b c.state) level
       (edge_still (remember_pins w s) (blanking s w) (pixel_data w))
       seen)
       (refl, seen))
@@ -133,8 +133,8 @@ module _ (blank : Bool) (s : Capture) (w : ℕ) (plain : embedded s.registers.cr
       no_event s _ (no_error_by_pins s w plain)
       (rw plain (either (λ (c : Captured). is_open s.frame ≡ true → is_open c.state.frame ≡ true) (working_edge s w && enabled s) (edge_open (remember_pins w s) (blanking s w) (pixel_data w) (level ∙ off)) (λ is. is)))
 
-  pub word_calms : (v : ℕ) → (capture_sample s w).word ≡ some v → (capture_sample s w).state.syncs.vsync ≡ blank
+  pub word_calms : (v : ℕ) → (capture_sample s w).word ≡ Some v → (capture_sample s w).state.syncs.vsync ≡ blank
   unfolding capture_sample edge no_word remember_pins with_pins blanking at_edge with_syncs
   word_calms v =
       rw plain
-      (either (λ (c : Captured). c.word ≡ some v → c.state.syncs.vsync ≡ blank) (working_edge s w && enabled s) (λ is. level) (λ is. let z : ◌≡◌ {A = ℕ} 0 1 = cc in absurd (omega arith)))
+      (either (λ (c : Captured). c.word ≡ Some v → c.state.syncs.vsync ≡ blank) (working_edge s w && enabled s) (λ is. level) (λ is. let z : ◌≡◌ {A = ℕ} 0 1 = cc in absurd (omega arith)))

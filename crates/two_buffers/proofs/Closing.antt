@@ -2,7 +2,7 @@
 -- rules but where the word is lost, and then the end of the frame tells nothing more. Assumes nothing.
 use mathlib.Core.Bool.{Bool, true, false, cond, not, ◌&&◌}
 use mathlib.Core.List.{List, [], ◌∷◌, ◌++◌}
-use mathlib.Core.Option.{Option, none, some}
+use Rattle.std.specs.Prelude.{Option, None, Some}
 use mathlib.Core.Path.{◌≡◌, refl, sym, ◌∙◌}
 use Prim.Native.Nat.{ℕ}
 use Rattle.bits.proofs.Booleans.{either}
@@ -11,7 +11,8 @@ use Rattle.buffers.specs.Story as story
 use Rattle.buffers.specs.Kept.{Kept, keep, keeps}
 use Rattle.output.specs.declared.Fate.{Fate}
 use Rattle.output.specs.declared.Fate.TheVariants.{Held, Lost}
-use Rattle.output.specs.Output.{OutputState, offer, Packed}
+use Rattle.output.specs.Output.{OutputState, offer}
+use Rattle.output.specs.declared.SampleAnswer.{SampleAnswer}
 use Rattle.rules.specs.declared.Capture.{Capture}
 use Rattle.rules.specs.declared.Core.{Core}
 use Rattle.rules.specs.declared.Device.{Device}
@@ -27,12 +28,12 @@ use Rattle.two_buffers.specs.Answers.{closing_events, events}
 in_turn : (k : Kept) (es fs gs : List story.Event) → keeps k (es ++ (fs ++ gs)) ≡ keeps (keeps (keeps k es) fs) gs
 in_turn k es fs gs = keeps_append k es (fs ++ gs) ∙ keeps_append (keeps k es) fs gs
 
-pub events_in_turn : (s : Capture) (w : ℕ) (core : Core) (l : Option ℕ) (p : Packed) (k : Kept) {k₁ k₂ k₃ : Kept} {error ended : Bool}
-    → k₁ ≡ keeps k (landing_event l) → k₂ ≡ keeps k₁ (word_event p) → error ≡ (capture_sample s w).error
+pub events_in_turn : (s : Capture) (w : ℕ) (core : Core) (a : SampleAnswer) (k : Kept) {k₁ k₂ k₃ : Kept} {error ended : Bool}
+    → k₁ ≡ keeps k (landing_event a.landing) → k₂ ≡ keeps k₁ (word_event a.packed) → error ≡ (capture_sample s w).error
     → ended ≡ (is_open s.frame && not (is_open core.capture.frame)) → k₃ ≡ keeps k₂ (closing_events error ended)
-    → k₃ ≡ keeps k (events s w core l p)
+    → k₃ ≡ keeps k (events s w core a)
 unfolding events
-events_in_turn s w core l p k e₁ e₂ error ended e₃ = rw (in_turn k (landing_event l) (word_event p) _, ← e₁, ← e₂, ← error, ← ended) e₃
+events_in_turn s w core a k e₁ e₂ error ended e₃ = rw (in_turn k (landing_event a.landing) (word_event a.packed) _, ← e₁, ← e₂, ← error, ← ended) e₃
 
 -- FRAME's flag leaves the frame.
 same_frame : (c : Captured) → (flagged c).frame ≡ c.state.frame
@@ -62,13 +63,13 @@ word_closes s Lost v c x k = quiet_either k c.error (is_open s.frame && not (is_
 
 complete_closes : (s : Capture) (o : Option ℕ) (c : Captured) (x : OutputState) → Closes s c (complete o c x)
 unfolding complete frame_event
-complete_closes s none c x k = rw (same_frame c)
-complete_closes s (some v) c x k = word_closes s (offer v x).fate v c (offer v x).state k
+complete_closes s None c x k = rw (same_frame c)
+complete_closes s (Some v) c x k = word_closes s (offer v x).fate v c (offer v x).state k
 
 -- A sample's.
 pub closing : (d : Device) (b : List ℕ) (w : ℕ) (k : Kept)
     → let r = step d b w in
-    keeps k (events (capture_of d) w r.device.core r.landing r.packed) ≡ keeps k (sample_events (capture_of d) w r.landing r.packed)
+    keeps k (events (capture_of d) w r.device.core (record { landing = r.landing; packed = r.packed })) ≡ keeps k (sample_events (capture_of d) w r.landing r.packed)
 unfolding step after_grant events sample_events
 closing d b w k =
     let s = capture_of d in

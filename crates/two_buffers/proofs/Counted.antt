@@ -1,7 +1,7 @@
 -- What a stretch has done, by the counts before and after it (`done_by`): a sample's landing and word make of it what its events make of the turns (`events_done`). The counts only grow.
 -- Assumes nothing.
 use mathlib.Core.Bool.{Bool, true, false}
-use mathlib.Core.Option.{Option, none, some}
+use Rattle.std.specs.Prelude.{Option, None, Some}
 use mathlib.Core.Path.{◌≡◌, refl}
 use Prim.Native.Nat.{ℕ, zero, suc, ◌+◌, ◌≤◌}
 use native.Mathlib.Omega.{arith}
@@ -11,7 +11,8 @@ use Rattle.buffers.specs.declared.Buffer.{Buffer}
 use Rattle.buffers.specs.declared.Turns.{Turns}
 use Rattle.buffers.specs.Kept.{Kept, keeps}
 use Rattle.output.specs.declared.Counts.{Counts}
-use Rattle.output.specs.Output.{Packed, nothing, completed, lost}
+use Rattle.output.specs.declared.Packing.{Packing as Packed}
+use Rattle.output.specs.declared.Packing.TheVariants.{Nothing as nothing, Completed as completed, Lost as lost}
 use Rattle.output.specs.Ledger.{Ledger, sample_entry, landing_entry}
 use Rattle.laws.specs.Ledger.{word_entry}
 use Rattle.board_rules.specs.TwoBuffers.{landing_event, word_event}
@@ -33,8 +34,8 @@ numbered n co la di h = record { samples = n; completed = co; landed = la; disca
 -- The counts grow.
 landing_grown : (o : Option ℕ) {c : Counts} (l : Ledger) → Grown c l → Grown c (landing_entry o l)
 unfolding landing_entry
-landing_grown none l g = g
-landing_grown (some byte) l g = record { completed = g.completed; landed = omega (arith, g.landed); discarded = g.discarded }
+landing_grown None l g = g
+landing_grown (Some byte) l g = record { completed = g.completed; landed = omega (arith, g.landed); discarded = g.discarded }
 
 word_grown : (q : Packed) {c : Counts} (l : Ledger) → Grown c l → Grown c (word_entry q l)
 unfolding word_entry
@@ -66,21 +67,21 @@ module _ (u : Buffer) (t : Turns) (opens : Bool) (a : ℕ) (is : next_buffer t �
   -- The landing.
   lands : (byte n co la di h p : ℕ) → c.landed ≤ la → Alive (numbered n co la di (suc h)) p
       → let l = numbered n co la di (suc h) in
-      (keeps (kept_by l p) (landing_event (some byte)) ≡ kept_by (landing_entry (some byte) l) (p + 1)) × Alive (landing_entry (some byte) l) (p + 1)
+      (keeps (kept_by l p) (landing_event (Some byte)) ≡ kept_by (landing_entry (Some byte) l) (p + 1)) × Alive (landing_entry (Some byte) l) (p + 1)
   unfolding keeps landing_entry
   lands byte n co la di h p grown alive =
       let (same, on) = landing_on u t opens a is fresh (ltb c.completed co) (ltb c.landed la) h p alive.going in
       let more = lt-ltb c.landed (la + 1) (omega arith) in
       (rw (alive.none_lost, more) same, record { none_lost = alive.none_lost; going = rw more on })
 
-  landing_done : (o : Option ℕ) (l : Ledger) (p : ℕ) → (l.held ≡ 0 → o ≡ none) → c.landed ≤ l.landed → Alive l p
+  landing_done : (o : Option ℕ) (l : Ledger) (p : ℕ) → (l.held ≡ 0 → o ≡ None) → c.landed ≤ l.landed → Alive l p
       → (keeps (kept_by l p) (landing_event o) ≡ kept_by (landing_entry o l) (place_after o p)) × Alive (landing_entry o l) (place_after o p)
   unfolding keeps landing_entry
-  landing_done none l p idle grown alive = (refl, alive)
-  landing_done (some byte) l p idle grown alive = go l.held refl
+  landing_done None l p idle grown alive = (refl, alive)
+  landing_done (Some byte) l p idle grown alive = go l.held refl
     where
       go : (h : ℕ) → l.held ≡ h
-          → (keeps (kept_by l p) (landing_event (some byte)) ≡ kept_by (landing_entry (some byte) l) (p + 1)) × Alive (landing_entry (some byte) l) (p + 1)
+          → (keeps (kept_by l p) (landing_event (Some byte)) ≡ kept_by (landing_entry (Some byte) l) (p + 1)) × Alive (landing_entry (Some byte) l) (p + 1)
       go zero e = let z = idle e in let z : ◌≡◌ {A = ℕ} 0 1 = cc in absurd (omega arith)
       go (suc h) e = rw e (lands byte l.samples l.completed l.landed l.discarded h p grown (record { none_lost = alive.none_lost; going = rw e at alive.going }))
 
@@ -101,7 +102,7 @@ module _ (u : Buffer) (t : Turns) (opens : Bool) (a : ℕ) (is : next_buffer t �
       (lost_on u t opens a is fresh (ltb c.completed l.completed) (ltb c.landed l.landed) l.held p alive.going)
 
   -- A sample's.
-  pub events_done : (o : Option ℕ) (q : Packed) (l : Ledger) (p : ℕ) → (l.held ≡ 0 → o ≡ none) → Grown c l → Alive l p
+  pub events_done : (o : Option ℕ) (q : Packed) (l : Ledger) (p : ℕ) → (l.held ≡ 0 → o ≡ None) → Grown c l → Alive l p
       → (keeps (keeps (kept_by l p) (landing_event o)) (word_event q) ≡ kept_by (entered o q l) (place_after o p)) × (¬ (q ≡ lost) → Alive (entered o q l) (place_after o p))
   unfolding sample_entry keeps word_entry
   events_done o q l p idle g alive =

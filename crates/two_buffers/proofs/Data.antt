@@ -2,7 +2,7 @@
 -- (`closed_step`). The idea: such a byte is a datum. Assumes nothing.
 use mathlib.Core.Bool.{Bool, true, false, ◌&&◌}
 use mathlib.Core.List.{List, [], ◌∷◌}
-use mathlib.Core.Option.{none}
+use Rattle.std.specs.Prelude.{None}
 use mathlib.Core.Path.{◌≡◌, refl, ap}
 use Prim.Native.Nat.{ℕ}
 use Rattle.bits.proofs.Booleans.{and_zero, either}
@@ -18,7 +18,7 @@ use Rattle.rules.specs.State.{is_open, with_pins, with_frame, with_waiting}
 use Rattle.rules.specs.Capture.{Captured, no_word, working_edge, enabled, remember_pins}
 use Rattle.rules.specs.Codes.{arrived, each_datum, byte_in, at_byte}
 use Rattle.rules.specs.Sample.{byte_of, edge, capture_sample}
-use Rattle.output.specs.Output.{nothing}
+use Rattle.output.specs.declared.Packing.TheVariants.{Nothing as nothing}
 use Rattle.rules.specs.Run.{after_grant, step}
 use Rattle.laws.proofs.FrameCodes.{each_same}
 use Rattle.board_rules.specs.TwoBuffers.{frame_event}
@@ -46,7 +46,7 @@ byte_stays (Open taken f) s x e =
     (each_calm t taken (arrived f) xs (waiting_count still), λ is. ap is_open (each_same t taken (arrived f) xs (waiting_count still)).frame)
 
 -- With no frame open it brings nothing.
-closed_byte : (f : Frame) (s : Capture) (x : ℕ) → f ≡ Closed → s.frame ≡ Closed → ((byte_in f s x).word ≡ none) × ((byte_in f s x).state.frame ≡ Closed)
+closed_byte : (f : Frame) (s : Capture) (x : ℕ) → f ≡ Closed → s.frame ≡ Closed → ((byte_in f s x).word ≡ None) × ((byte_in f s x).state.frame ≡ Closed)
 unfolding byte_in no_word with_waiting
 closed_byte f s x e closed = rw e (refl, closed)
 
@@ -64,12 +64,12 @@ module _ (s : Capture) (w : ℕ) (coded : embedded s.registers.cr ≡ true) (non
   pub datum_event : frame_event s (capture_sample s w) ≡ []
   datum_event = no_event s _ datum_stays.0 datum_stays.1
 
-  closed_datum : s.frame ≡ Closed → ((capture_sample s w).word ≡ none) × ((capture_sample s w).state.frame ≡ Closed)
+  closed_datum : s.frame ≡ Closed → ((capture_sample s w).word ≡ None) × ((capture_sample s w).state.frame ≡ Closed)
   unfolding capture_sample edge at_byte no_word remember_pins with_pins
   closed_datum closed =
       let plain : is_code s.waiting ≡ false = rw none_waits refl in
       rw coded
-      (either (λ (c : Captured). (c.word ≡ none) × (c.state.frame ≡ Closed)) (working_edge s w && enabled s)
+      (either (λ (c : Captured). (c.word ≡ None) × (c.state.frame ≡ Closed)) (working_edge s w && enabled s)
       (rw plain (closed_byte s.frame (remember_pins w s) (byte_of w) closed closed))
       (refl, closed))
 

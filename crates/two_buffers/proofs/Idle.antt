@@ -2,7 +2,7 @@
 -- (`lost_still`, `lost_closed`). Assumes nothing.
 use mathlib.Core.Bool.{Bool, true, false, cond, ◌&&◌, beq}
 use mathlib.Core.List.{List, [], ◌∷◌}
-use mathlib.Core.Option.{Option, none, some}
+use Rattle.std.specs.Prelude.{Option, None, Some}
 use mathlib.Core.Path.{◌≡◌, refl, ap, ◌∙◌}
 use Prim.Native.Nat.{ℕ, ◌+◌}
 use native.Mathlib.Omega.{arith}
@@ -13,7 +13,8 @@ use Rattle.registers.specs.Control.{snapshot, enable, embedded, vspol}
 use Rattle.samples.specs.Samples.{vsync_pin, bus_grant}
 use Rattle.output.specs.declared.Fate.{Fate}
 use Rattle.output.specs.declared.Fate.TheVariants.{Held, Lost}
-use Rattle.output.specs.Output.{OutputState, contents, push, with_held, holding, with_counts, with_place, count_sample, count_word, count_discarded, count_landed, room, Granted, no_landing, lands, oldest_lands, grant, Offered, offer, discard, nothing, lost, counted}
+use Rattle.output.specs.Output.{OutputState, contents, push, with_held, holding, with_counts, with_place, count_sample, count_word, count_discarded, count_landed, room, Granted, no_landing, lands, oldest_lands, grant, Offered, offer, discard, counted}
+use Rattle.output.specs.declared.Packing.TheVariants.{Nothing as nothing, Lost as lost}
 use Rattle.rules.specs.declared.Capture.{Capture}
 use Rattle.rules.specs.declared.Frame.TheVariants.{Closed}
 use Rattle.rules.specs.declared.Device.{Device}
@@ -27,8 +28,8 @@ use Rattle.two_buffers.proofs.Calm.{Still, still_sample, word_calms}
 
 -- The place of the next word: after a landing it is the one behind.
 abbrev pub place_after : Option ℕ → ℕ → ℕ
-place_after none p = p
-place_after (some byte) p = p + 1
+place_after None p = p
+place_after (Some byte) p = p + 1
 
 Placed : OutputState → Granted → Type 0
 Placed x g = g.state.output.place ≡ place_after g.landing x.output.place
@@ -75,7 +76,7 @@ abbrev placed_output : ℕ → OutputState → OutputState
 placed_output q x = record { output = with_place q x.output; slots = x.slots }
 
 word_placed : (v q : ℕ) (c : Captured) (x : OutputState)
-    → complete (some v) c (placed_output q x) ≡ record { device = placed q (complete (some v) c x).device; packed = (complete (some v) c x).packed }
+    → complete (Some v) c (placed_output q x) ≡ record { device = placed q (complete (Some v) c x).device; packed = (complete (Some v) c x).packed }
 unfolding complete offer after_word holding with_held with_place contents count_word count_discarded with_counts discard
 word_placed v q c x = go (ltb x.output.held x.output.depth)
   where
@@ -95,37 +96,37 @@ word_placed v q c x = go (ltb x.output.held x.output.depth)
 complete_placed : (o : Option ℕ) (q : ℕ) (c : Captured) (x : OutputState)
     → complete o c (placed_output q x) ≡ record { device = placed q (complete o c x).device; packed = (complete o c x).packed }
 unfolding complete holding with_held with_place count_discarded with_counts discard
-complete_placed none q c x = go c.error
+complete_placed None q c x = go c.error
   where
     go : (b : Bool) → let y = placed_output q x in ◌≡◌ {A = Completed} (record { device = record { core = record { capture = flagged c; output = (cond b (discard 0 y) y).output }; slots = (cond b (discard 0 y) y).slots }; packed = nothing })
         (record { device = placed q (record { core = record { capture = flagged c; output = (cond b (discard 0 x) x).output }; slots = (cond b (discard 0 x) x).slots }); packed = nothing })
     go true = refl
     go false = refl
-complete_placed (some v) q c x = word_placed v q c x
+complete_placed (Some v) q c x = word_placed v q c x
 
-pub idle_landing : (d : Device) (b : List ℕ) (w : ℕ) → d.core.output.held ≡ 0 → ((step d b w).landing ≡ none) × ((step d b w).buffer ≡ b)
+pub idle_landing : (d : Device) (b : List ℕ) (w : ℕ) → d.core.output.held ≡ 0 → ((step d b w).landing ≡ None) × ((step d b w).buffer ≡ b)
 unfolding step counted count_sample with_counts no_landing
 idle_landing d b w e = rw (grant_idle (bus_grant w) (enable d.core.capture.registers.cr) (counted (output_of d)) b e) (refl, refl)
 
-pub full_landing : (d : Device) (b : List ℕ) (w : ℕ) → room d.core.output.place b ≡ false → ((step d b w).landing ≡ none) × ((step d b w).buffer ≡ b)
+pub full_landing : (d : Device) (b : List ℕ) (w : ℕ) → room d.core.output.place b ≡ false → ((step d b w).landing ≡ None) × ((step d b w).buffer ≡ b)
 unfolding step counted count_sample with_counts no_landing
 full_landing d b w e = rw (grant_full (bus_grant w) (enable d.core.capture.registers.cr) (counted (output_of d)) b e) (refl, refl)
 
 pub idle_step : (d : Device) (b b' : List ℕ) (w q : ℕ) → d.core.output.held ≡ 0
-    → step (placed q d) b w ≡ record { device = placed q (step d b' w).device; buffer = b; landing = none; packed = (step d b' w).packed }
+    → step (placed q d) b w ≡ record { device = placed q (step d b' w).device; buffer = b; landing = None; packed = (step d b' w).packed }
 unfolding step after_grant counted count_sample with_counts no_landing with_place
 idle_step d b b' w q e =
     let s = capture_of d in
     let on = enable s.registers.cr in
     rw (grant_idle (bus_grant w) on (counted (output_of (placed q d))) b e, grant_idle (bus_grant w) on (counted (output_of d)) b' e)
-    (ap (λ (r : Completed). record { device = r.device; buffer = b; landing = none; packed = r.packed }) (complete_placed (capture_sample s w).word q (capture_sample s w) (counted (output_of d))))
+    (ap (λ (r : Completed). record { device = r.device; buffer = b; landing = None; packed = r.packed }) (complete_placed (capture_sample s w).word q (capture_sample s w) (counted (output_of d))))
 
 -- A sample while no frame is open and none starts.
 flagged_still : (blank : Bool) (c : Captured) → Still blank c.state → Still blank (flagged c)
 unfolding flagged raise with_registers
 flagged_still blank c still = either (Still blank) c.due (record { closed = still.closed; none_starts = still.none_starts }) still
 
-pub complete_still : (blank : Bool) (o : Option ℕ) (c : Captured) (x : OutputState) → o ≡ none → Still blank c.state
+pub complete_still : (blank : Bool) (o : Option ℕ) (c : Captured) (x : OutputState) → o ≡ None → Still blank c.state
     → ((complete o c x).packed ≡ nothing) × Still blank (complete o c x).device.core.capture
 unfolding complete
 complete_still blank o c x e still = rw e (refl, flagged_still blank c still)
@@ -145,11 +146,11 @@ lose_still s e =
     let same = either (λ (t : Capture). t.syncs.vsync ≡ false) (snapshot s.registers.cr) e e in
     record { closed = refl; none_starts = and_unit _ ∙ same }
 
-complete_lost : (P : Capture → Type 0) (o : Option ℕ) (c : Captured) (x : OutputState) → ((v : ℕ) → o ≡ some v → P (lose_frame c.state)) → (complete o c x).packed ≡ lost
+complete_lost : (P : Capture → Type 0) (o : Option ℕ) (c : Captured) (x : OutputState) → ((v : ℕ) → o ≡ Some v → P (lose_frame c.state)) → (complete o c x).packed ≡ lost
     → P (complete o c x).device.core.capture
 unfolding complete after_word
-complete_lost P none c x calm e = let z : ◌≡◌ {A = ℕ} 0 1 = cc in absurd (omega arith)
-complete_lost P (some v) c x calm e = go (offer v x).fate e
+complete_lost P None c x calm e = let z : ◌≡◌ {A = ℕ} 0 1 = cc in absurd (omega arith)
+complete_lost P (Some v) c x calm e = go (offer v x).fate e
   where
     go : (f : Fate) → (after_word f v c (offer v x).state).packed ≡ lost → P (after_word f v c (offer v x).state).device.core.capture
     go Held e = let z : ◌≡◌ {A = ℕ} 0 1 = cc in absurd (omega arith)

@@ -15,7 +15,7 @@ use Rattle.rules.specs.declared.Frame.TheVariants.{Closed, Open}
 use Rattle.rules.specs.declared.Device.{Device}
 use Rattle.rules.specs.State.{capture_of, is_open}
 use Rattle.rules.specs.Sample.{capture_sample}
-use Rattle.output.specs.Output.{nothing, lost}
+use Rattle.output.specs.declared.Packing.TheVariants.{Nothing as nothing, Lost as lost}
 use Rattle.rules.specs.Run.{step}
 use Rattle.laws.proofs.RegisterValues.{half_setup, same_embedded, same_vspol}
 use Rattle.laws.proofs.KeepsSample.{step_half}

@@ -1,7 +1,7 @@
 -- A sample with two frame buffers: what the calls in it ask, of a well-formed device and turns that fit it; and the sample from what the inner one leaves and answers. Assumes nothing.
 use mathlib.Core.Bool.{Bool, true, false, not, ◌&&◌}
 use mathlib.Core.List.{List, [], ◌∷◌, ◌++◌}
-use mathlib.Core.Option.{Option, none, some}
+use Rattle.std.specs.Prelude.{Option, None, Some}
 use mathlib.Core.Path.{◌≡◌, refl, ap, ◌∙◌}
 use Prim.Native.Nat.{ℕ, ◌+◌, ◌<◌, ◌^◌, ◌≤◌}
 use native.Mathlib.Numerals.{add-one}
@@ -12,7 +12,10 @@ use Rattle.buffers.specs.declared.Buffer.{Buffer}
 use Rattle.buffers.specs.Turns.{oldest_buffer, oldest_place}
 use Rattle.buffers.specs.Story as story
 use Rattle.buffers.specs.Kept.{Kept, keep, keeps}
-use Rattle.output.specs.Output.{OutputState, contents, with_place, Packed, completed}
+use Rattle.output.specs.Output.{OutputState, contents, with_place}
+use Rattle.output.specs.declared.Packing.{Packing as Packed}
+use Rattle.output.specs.declared.SampleAnswer.{SampleAnswer}
+use Rattle.output.specs.declared.Packing.TheVariants.{Completed as completed}
 use Rattle.output.specs.WellFormed.{Laid}
 use Rattle.rules.specs.declared.Capture.{Capture}
 use Rattle.rules.specs.declared.Core.{Core}
@@ -31,7 +34,7 @@ use Rattle.board_rules.specs.TwoBuffers.{landing_event, word_event, frame_event,
 use Rattle.board_rules.proofs.WellFormed.{TurnsOk}
 use Rattle.laws.proofs.KeepsWrites.{placed_ok}
 use Rattle.board_laws.proofs.TwoKeeps.{keeps_append, two_step_held, Within, oldest_at_most, landing_within}
-use Rattle.fifo.specs.Notes.{noted_landing, noted_packing}
+use Rattle.fifo.specs.Notes.{no_answer}
 use Rattle.sampling.specs.Notes.{Noted, noted_steps}
 use Rattle.sampling.specs.Answers.{noted}
 use Rattle.sampling.proofs.Noted.{one_sample}
@@ -46,10 +49,10 @@ abbrev pub inner : Two → ℕ → Stepped
 inner x w = step (found x) (part (oldest_buffer x.turns) x.buffers) w
 
 -- Where a word was completed ERR did not rise.
-quiet : (o : Option ℕ) (c : Captured) (x : OutputState) (v : ℕ) → (c.error ≡ true → o ≡ none) → (complete o c x).packed ≡ completed v → c.error ≡ false
+quiet : (o : Option ℕ) (c : Captured) (x : OutputState) (v : ℕ) → (c.error ≡ true → o ≡ None) → (complete o c x).packed ≡ completed v → c.error ≡ false
 unfolding complete
-quiet none c x v alone e = let z : ◌≡◌ {A = ℕ} 0 1 = cc in absurd (omega arith)
-quiet (some v') c x v alone e = go c.error refl
+quiet None c x v alone e = let z : ◌≡◌ {A = ℕ} 0 1 = cc in absurd (omega arith)
+quiet (Some v') c x v alone e = go c.error refl
   where
     go : (rises : Bool) → c.error ≡ rises → c.error ≡ false
     go false is = is
@@ -112,12 +115,12 @@ module _ (x : Two) (well : WellFormed x.device) (turns : TurnsOk x.device.core.o
       record { held = low; buffers = bit_fits k₁.held _ low fits.buffers; opening = bit_fits k₁.held _ low fits.opening }
 
 -- What the inner sample leaves and answers, from the notes of a run of one.
-pub answers : (x : Two) (w : ℕ) {u : Buffer} {place : ℕ} {first : Core} (n : Noted) {l : Option ℕ} {p : Packed} → u ≡ oldest_buffer x.turns
-    → place ≡ oldest_place x.device.core.output.place x.turns → first ≡ placed place x.device.core
-    → n ≡ noted_steps (noted first x.device.slots (part u x.buffers) (0 ∷ 0 ∷ []) (0 ∷ 0 ∷ [])) (w ∷ []) → l ≡ noted_landing n.landings → p ≡ noted_packing n.words
-    → ◌≡◌ {A = Stepped} (record { device = n.device; buffer = n.buffer; landing = l; packed = p }) (inner x w)
+pub answers : (x : Two) (w : ℕ) {u : Buffer} {place : ℕ} {first : Core} (n : Noted) {a : SampleAnswer} → u ≡ oldest_buffer x.turns
+    → place ≡ oldest_place x.device.core.output.place x.turns → first ≡ placed place x.device.core → a ≡ no_answer
+    → n ≡ noted_steps (noted first x.device.slots (part u x.buffers) a) (w ∷ [])
+    → ◌≡◌ {A = Stepped} (record { device = n.device; buffer = n.buffer; landing = n.answer.landing; packed = n.answer.packed }) (inner x w)
 unfolding placed
-answers x w n eu ep ef en el ew = rw (el, ew) (one_sample (found x) (part (oldest_buffer x.turns) x.buffers) w (rw (ef, ep, eu) at en))
+answers x w n eu ep ef ea en = one_sample (found x) (part (oldest_buffer x.turns) x.buffers) w (rw (ef, ep, eu, ea) at en)
 
 -- The sample, from that.
 abbrev made : Buffer → Kept → Stepped → Pair → TwoStepped
@@ -125,7 +128,7 @@ made u k r m =
     record { after = record { device = register_rules.placed k.place_a r.device; turns = k.turns; buffers = m }; landing = landing_in u r.landing; packed = r.packed }
 
 abbrev kept_by : Two → ℕ → Stepped → Kept
-kept_by x w r = keeps (kept_of x.device x.turns) (events (capture_of x.device) w r.device.core r.landing r.packed)
+kept_by x w r = keeps (kept_of x.device x.turns) (events (capture_of x.device) w r.device.core (record { landing = r.landing; packed = r.packed }))
 
 pub one_step : (x : Two) (w : ℕ) (u : Buffer) (r : Stepped) (m : Pair) → u ≡ oldest_buffer x.turns → r ≡ inner x w → m ≡ with_part u r.buffer x.buffers
     → made u (kept_by x w r) r m ≡ two_step x w

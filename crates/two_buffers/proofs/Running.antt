@@ -2,7 +2,7 @@
 -- the counts are those that the events make of them. After a lost word no word is held and none comes any more. Assumes nothing.
 use mathlib.Core.Bool.{Bool, false}
 use mathlib.Core.List.{List, [], ◌∷◌, ◌++◌}
-use mathlib.Core.Option.{Option, none}
+use Rattle.std.specs.Prelude.{Option, None}
 use mathlib.Core.Path.{◌≡◌, refl, sym, ap, ◌∙◌}
 use Prim.Native.Nat.{ℕ, zero, suc}
 use native.Mathlib.Omega.{arith}
@@ -11,7 +11,9 @@ use Rattle.buffers.specs.declared.Buffer.TheVariants.{A, B}
 use Rattle.buffers.specs.declared.Turns.{Turns}
 use Rattle.buffers.specs.Turns.{oldest_buffer, oldest_place}
 use Rattle.buffers.specs.Kept.{Kept, keeps}
-use Rattle.output.specs.Output.{with_place, Packed, nothing, completed, lost}
+use Rattle.output.specs.Output.{with_place}
+use Rattle.output.specs.declared.Packing.{Packing as Packed}
+use Rattle.output.specs.declared.Packing.TheVariants.{Nothing as nothing, Completed as completed, Lost as lost}
 use Rattle.rules.specs.declared.Capture.{Capture}
 use Rattle.rules.specs.declared.Device.{Device}
 use Rattle.rules.specs.State.{capture_of}
@@ -153,7 +155,7 @@ module _ (x : Two) (u : Buffer) (turns_by : Ledger → ℕ → Turns) (place_by 
   -- The number of samples tells nothing of the turns.
   module _ (same_turns : (l : Ledger) (p : ℕ) → turns_by (sample_entry l) p ≡ turns_by l p) (same_place : (l : Ledger) (p : ℕ) → place_by (sample_entry l) p ≡ place_by l p) where
     -- No word is held, and none comes.
-    quiet_kept : (l : Ledger) (p : ℕ) (o : Option ℕ) (q : Packed) → o ≡ none → q ≡ nothing
+    quiet_kept : (l : Ledger) (p : ℕ) (o : Option ℕ) (q : Packed) → o ≡ None → q ≡ nothing
         → keeps (keeps (Kept_as l p) (landing_event o)) (word_event q) ≡ Kept_as (entered o q l) (place_after o p)
     unfolding keeps sample_entry landing_entry word_entry
     quiet_kept l p o q e f =
@@ -177,7 +179,7 @@ module _ (x : Two) (u : Buffer) (turns_by : Ledger → ℕ → Turns) (place_by 
           let l = numbers r.device.core.output in
           ap (λ (n : Ledger). n.held) (numbers_after r.device r.buffer w rests.error)
           ∙ ap (λ (o : Option ℕ). (entered o R.packed l).held) (idle_landing r.device r.buffer w empty).0
-          ∙ ap (λ (q : Packed). (entered none q l).held) silent
+          ∙ ap (λ (q : Packed). (entered None q l).held) silent
           ∙ empty
 
     silent_run : (r : Ran) (ws : List ℕ) → r.device.core.output.held ≡ 0 → Silent r.device r.buffer ws → two_steps (run_as r) ws ≡ run_as (steps r.device r.buffer ws)

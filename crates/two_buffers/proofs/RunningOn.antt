@@ -12,7 +12,8 @@ use Rattle.buffers.specs.declared.Buffer.{Buffer}
 use Rattle.buffers.specs.declared.Turns.{Turns}
 use Rattle.buffers.specs.Turns.{oldest_buffer, oldest_place}
 use Rattle.buffers.specs.Kept.{keeps}
-use Rattle.output.specs.Output.{with_place, lost}
+use Rattle.output.specs.Output.{with_place}
+use Rattle.output.specs.declared.Packing.TheVariants.{Lost as lost}
 use Rattle.rules.specs.State.{capture_of}
 use Rattle.rules.specs.Sample.{capture_sample}
 use Rattle.rules.specs.RegisterCalls.{placed}

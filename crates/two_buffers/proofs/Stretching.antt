@@ -3,10 +3,10 @@
 use mathlib.Core.Bool.{Bool, true, false, cond, beq, false≢true}
 use mathlib.Core.List.{List, [], ◌∷◌}
 use mathlib.Core.Path.{◌≡◌, refl, sym, ap, ◌∙◌}
-use Prim.Native.Nat.{ℕ, suc, ◌+◌, ◌-◌, ◌≤◌, ◌<◌}
+use Prim.Native.Nat.{ℕ, suc, ◌+◌, ◌≤◌, ◌<◌}
 use native.Mathlib.Omega.{arith}
 use lib.Dec.{eqb, ltb}
-use lib.ListN.{length, get_or, take, drop, length-drop}
+use lib.ListN.{length, get_or, take}
 use borrow.Author.Tests.{not-true}
 use Rattle.bits.proofs.Booleans.{same_bool, by_cond, either}
 use Rattle.registers.specs.Control.{embedded, vspol}
@@ -18,6 +18,7 @@ use Rattle.buffers.specs.declared.Buffer.TheVariants.{A, B}
 use Rattle.buffers.specs.declared.Turns.{Turns}
 use Rattle.buffers.specs.Turns.{oldest_buffer, next_place, oldest_place}
 use Rattle.output.specs.declared.Output.{Output}
+use Rattle.output.specs.declared.SampleAnswer.{SampleAnswer}
 use Rattle.output.specs.WellFormed.{Laid}
 use Rattle.rules.specs.declared.Capture.{Capture}
 use Rattle.rules.specs.declared.Core.{Core}
@@ -57,8 +58,8 @@ first_low held a n t la lb = either (λ (k : ℕ). k ≤ n) (first_opens held t)
     go B = lb
 
 -- What the run over a buffer, from a place on, leaves.
-module _ (x : Two) (laid : Laid (output_of x.device)) (ws : List ℕ) {u u₀ : Buffer} {place p₀ : ℕ} {first : Core} (l v : List ℕ) (n : Noted) (eu : u ≡ u₀) (ep : place ≡ p₀)
-    (ef : first ≡ placed place x.device.core) (en : n ≡ noted_steps (noted first x.device.slots (part u x.buffers) l v) ws) where
+module _ (x : Two) (laid : Laid (output_of x.device)) (ws : List ℕ) {u u₀ : Buffer} {place p₀ : ℕ} {first : Core} (a₀ : SampleAnswer) (n : Noted) (eu : u ≡ u₀) (ep : place ≡ p₀)
+    (ef : first ≡ placed place x.device.core) (en : n ≡ noted_steps (noted first x.device.slots (part u x.buffers) a₀) ws) where
   ran : ◌≡◌ {A = Ran} (record { device = n.device; buffer = n.buffer }) (steps (register_rules.placed p₀ x.device) (part u₀ x.buffers) ws)
   unfolding placed
   ran = ap (λ (m : Noted). record { device = m.device; buffer = m.buffer }) (rw (ef, ep, eu) at en) ∙ same_run _ ws
@@ -79,24 +80,24 @@ module _ (x : Two) (well : WellFormed x.device) (turns : TurnsOk x.device.core.o
   pub run_laid : Laid (output_of from)
   run_laid = placed_laid _ x.device laid
 
-  module _ (ws : List ℕ) (lasts : Lasts (embedded x.device.core.capture.registers.cr) x.device.core.capture ws) {u : Buffer} {place : ℕ} {first : Core} (l v : List ℕ) (n : Noted) where
+  module _ (ws : List ℕ) (lasts : Lasts (embedded x.device.core.capture.registers.cr) x.device.core.capture ws) {u : Buffer} {place : ℕ} {first : Core} (a₀ : SampleAnswer) (n : Noted) where
     pub stretch_run : {t : Turns} {a : ℕ} (m : Pair) → alone x.device.core.output.held x.turns ≡ true → (eu : u ≡ next_buffer x.turns)
         → (ep : place ≡ first_place x.device.core.output.held x.device.core.output.place x.turns) → (ef : first ≡ placed place x.device.core)
-        → (en : n ≡ noted_steps (noted first x.device.slots (part u x.buffers) l v) ws) → m ≡ with_part u n.buffer x.buffers
+        → (en : n ≡ noted_steps (noted first x.device.slots (part u x.buffers) a₀) ws) → m ≡ with_part u n.buffer x.buffers
         → t ≡ turns_after x.turns x.device.core.output.held x.device.core.output.counts n.device.core.output
         → a ≡ place_a u (ltb x.device.core.output.counts.landed n.device.core.output.counts.landed) n.device.core.output.place x.device.core.output.place
         → ◌≡◌ {A = Two} (record { device = register_rules.placed a n.device; turns = t; buffers = m }) (two_steps x ws)
     unfolding turns_after
     stretch_run m single eu ep ef en em et ea =
-        rw (em, et, ea, eu) (ap (λ (r : Ran). run_on x single r) (ran x laid ws l v n eu ep ef en) ∙ sym (runs_on x single turns ws lasts))
+        rw (em, et, ea, eu) (ap (λ (r : Ran). run_on x single r) (ran x laid ws a₀ n eu ep ef en) ∙ sym (runs_on x single turns ws lasts))
 
     pub behind_run : {t : Turns} (m : Pair) → no_room x.device.core.output x.turns (length x.buffers.a) (length x.buffers.b) ≡ true → (eu : u ≡ oldest_buffer x.turns)
         → (ep : place ≡ oldest_place x.device.core.output.place x.turns) → (ef : first ≡ placed place x.device.core)
-        → (en : n ≡ noted_steps (noted first x.device.slots (part u x.buffers) l v) ws) → m ≡ with_part u n.buffer x.buffers
+        → (en : n ≡ noted_steps (noted first x.device.slots (part u x.buffers) a₀) ws) → m ≡ with_part u n.buffer x.buffers
         → t ≡ turns_behind x.device.core.output.held (ltb x.device.core.output.counts.discarded n.device.core.output.counts.discarded) n.device.core.output.held x.turns
         → ◌≡◌ {A = Two} (record { device = register_rules.placed x.device.core.output.place n.device; turns = t; buffers = m }) (two_steps x ws)
     behind_run m stuck eu ep ef en em et =
-        rw (em, et, eu) (ap (λ (r : Ran). run_behind x stuck r) (ran x laid ws l v n eu ep ef en) ∙ sym (runs_behind x stuck ws lasts))
+        rw (em, et, eu) (ap (λ (r : Ran). run_behind x stuck r) (ran x laid ws a₀ n eu ep ef en) ∙ sym (runs_behind x stuck ws lasts))
 
 -- The one way or the other.
 pub behind_else : (o : Output) (t : Turns) (a b : ℕ) → runs o t a b ≡ true → alone o.held t ≡ false → no_room o t a b ≡ true
@@ -117,54 +118,53 @@ unfolding goes_on
 idle_of true in_frame e is = not-true _ e
 idle_of false in_frame e is = absurd (false≢true is)
 
--- The samples up to where they no longer last.
-record Part (s : Capture) (samples : List ℕ) (i k : ℕ) : Type 0 where
-  inside : k ≤ length samples
-  lasts : Lasts (embedded s.registers.cr) s (take (k - i) (drop i samples))
+-- The first samples, as long as they last.
+record Part (s : Capture) (ws : List ℕ) (n : ℕ) : Type 0 where
+  inside : n ≤ length ws
+  lasts : Lasts (embedded s.registers.cr) s (take n ws)
 
-lasting_part : (s : Capture) (samples : List ℕ) (i : ℕ) → i < length samples → i < lasting_end s samples i → Part s samples i (lasting_end s samples i)
+lasting_part : (s : Capture) (ws : List ℕ) → 0 < lasting_end s ws 0 → Part s ws (lasting_end s ws 0)
 unfolding lasting_end
-lasting_part s samples i within = go (embedded s.registers.cr) refl
+lasting_part s ws = go (embedded s.registers.cr) refl
   where
     level : Bool
-    level = vsync_pin (get_or samples i 0)
+    level = vsync_pin (get_or ws 0 0)
 
     polarity : Bool
     polarity = vspol s.registers.cr
 
     data_end : ℕ
-    data_end = cond (eqb (waiting_count s.waiting) 0) (i + data_run (drop i samples)) i
+    data_end = cond (eqb (waiting_count s.waiting) 0) (0 + data_run ws) 0
 
     level_end : ℕ
-    level_end = cond (goes_on (beq level polarity) (is_open s.frame)) (i + level_run level (drop i samples)) i
+    level_end = cond (goes_on (beq level polarity) (is_open s.frame)) (0 + level_run level ws) 0
 
-    by_level : i < level_end → (level_end ≤ length samples) × AtLevel s (take (level_end - i) (drop i samples))
+    by_level : 0 < level_end → (level_end ≤ length ws) × AtLevel s (take level_end ws)
     by_level =
-        by_cond (λ (k : ℕ). i < k → (k ≤ length samples) × AtLevel s (take (k - i) (drop i samples))) (goes_on (beq level polarity) (is_open s.frame)) _ _
-        (λ on less.
-        let so_many : i + level_run level (drop i samples) - i ≡ level_run level (drop i samples) = omega arith in
-        (omega (arith, rw length-drop at (run_within level (drop i samples))), rw so_many (record { blank = beq level polarity; levels = level_blanks level polarity (drop i samples); idle = idle_of (beq level polarity) (is_open s.frame) on })))
-        (λ off less. absurd (omega arith))
+        by_cond (λ (n : ℕ). 0 < n → (n ≤ length ws) × AtLevel s (take n ws)) (goes_on (beq level polarity) (is_open s.frame)) _ _
+        (λ on some.
+        let so_many : 0 + level_run level ws ≡ level_run level ws = omega arith in
+        (omega (arith, run_within level ws), rw so_many (record { blank = beq level polarity; levels = level_blanks level polarity ws; idle = idle_of (beq level polarity) (is_open s.frame) on })))
+        (λ off some. absurd (omega arith))
 
-    go : (coded : Bool) → embedded s.registers.cr ≡ coded → i < cond coded data_end level_end → Part s samples i (cond coded data_end level_end)
-    go true coded less =
-        record { inside = data_within samples i s.waiting data_end refl (omega arith); lasts = rw coded (data_part samples i s.waiting data_end refl less) }
-    go false plain less = let (inside, at_level) = by_level less in record { inside = inside; lasts = rw plain at_level }
+    go : (coded : Bool) → embedded s.registers.cr ≡ coded → 0 < cond coded data_end level_end → Part s ws (cond coded data_end level_end)
+    go true coded some = record { inside = data_within ws s.waiting data_end refl; lasts = rw coded (data_part ws s.waiting data_end refl some) }
+    go false plain some = let (inside, at_level) = by_level some in record { inside = inside; lasts = rw plain at_level }
 
 -- They are a stretch.
-pub record Stretch (c : Core) (t : Turns) (a b : ℕ) (samples : List ℕ) (i k : ℕ) : Type 0 where
-  pub inside : k ≤ length samples
+pub record Stretch (c : Core) (t : Turns) (a b : ℕ) (ws : List ℕ) (n : ℕ) : Type 0 where
+  pub inside : n ≤ length ws
   pub runs : runs c.output t a b ≡ true
-  pub lasts : Lasts (embedded c.capture.registers.cr) c.capture (take (k - i) (drop i samples))
+  pub lasts : Lasts (embedded c.capture.registers.cr) c.capture (take n ws)
 
-stretch_on : (c : Core) (t : Turns) (a b : ℕ) (samples : List ℕ) (i : ℕ) → i < length samples → i < stretch_end c t a b samples i → Stretch c t a b samples i (stretch_end c t a b samples i)
+stretch_on : (c : Core) (t : Turns) (a b : ℕ) (ws : List ℕ) → 0 < stretch_end c t a b ws 0 → Stretch c t a b ws (stretch_end c t a b ws 0)
 unfolding stretch_end
-stretch_on c t a b samples i within =
-    by_cond (λ (k : ℕ). i < k → Stretch c t a b samples i k) (runs c.output t a b) _ _
-    (λ is less.
-    let part = lasting_part c.capture samples i within less in
+stretch_on c t a b ws =
+    by_cond (λ (n : ℕ). 0 < n → Stretch c t a b ws n) (runs c.output t a b) _ _
+    (λ is some.
+    let part = lasting_part c.capture ws some in
     record { inside = part.inside; runs = is; lasts = part.lasts })
-    (λ e less. absurd (omega arith))
+    (λ e some. absurd (omega arith))
 
-pub stretch_to : {c : Core} {t : Turns} {a b : ℕ} {samples : List ℕ} {i k : ℕ} → k ≡ stretch_end c t a b samples i → i < length samples → i < k → Stretch c t a b samples i k
-stretch_to {c} {t} {a} {b} {samples} {i} e within less = rw e (stretch_on c t a b samples i within (rw e at less))
+pub stretch_to : {c : Core} {t : Turns} {a b : ℕ} {ws : List ℕ} {n : ℕ} → n ≡ stretch_end c t a b ws 0 → 0 < n → Stretch c t a b ws n
+stretch_to {c} {t} {a} {b} {ws} e some = rw e (stretch_on c t a b ws (rw e at some))

@@ -2,11 +2,9 @@
 -- The idea: one step takes the head of what is left, a stretch some of it. Assumes nothing.
 use mathlib.Core.List.{List, [], ◌∷◌, ◌++◌}
 use mathlib.Core.Path.{◌≡◌, refl, sym, ap, ◌∙◌}
-use Prim.Native.Nat.{ℕ, ◌+◌, ◌-◌, ◌<◌, ◌≤◌}
-use native.Mathlib.Numerals.{add-one}
+use Prim.Native.Nat.{ℕ, ◌+◌}
 use native.Mathlib.Omega.{arith}
-use lib.ListN.{length, get_or, take, drop, take-append-drop, length-drop, drop_of_length-le}
-use lib.Seq.{drop-cons, drop-drop, length-take-le}
+use lib.ListN.{length-append, length}
 use Rattle.buffers.specs.Turns.{oldest_buffer}
 use Rattle.output.specs.Output.{with_place}
 use Rattle.output.specs.WellFormed.{Laid}
@@ -42,55 +40,48 @@ along x (w ∷ ws) laid =
     let (laid', count) = along (two_step x w).after ws (step_two_laid x w laid) in
     (laid', omega (arith, count, step_two_samples x w))
 
-pub record Turning (samples : List ℕ) (x₀ x : Two) (i : ℕ) : Type 0 where
-  pub same : two_steps x (drop i samples) ≡ two_steps x₀ samples
+-- What is left of the samples leads to the same end as all of them from the first.
+pub record Turning (samples : List ℕ) (x₀ x : Two) (rest : List ℕ) : Type 0 where
+  pub same : two_steps x rest ≡ two_steps x₀ samples
   pub well : WellFormed x.device
   pub turns : TurnsOk x.device.core.output x.turns
   pub laid : Laid (output_of x.device)
-  pub count : x.device.core.output.counts.samples ≡ x₀.device.core.output.counts.samples + i
+  pub count : x.device.core.output.counts.samples + length rest ≡ x₀.device.core.output.counts.samples + length samples
   pub long_a : length x.buffers.a ≡ length x₀.buffers.a
   pub long_b : length x.buffers.b ≡ length x₀.buffers.b
 
-pub starting : (samples : List ℕ) (x : Two) → WellFormed x.device → TurnsOk x.device.core.output x.turns → Laid (output_of x.device) → Turning samples x x 0
-starting samples x well turns laid = record { same = refl; well = well; turns = turns; laid = laid; count = omega arith; long_a = refl; long_b = refl }
+pub turning_on : {samples : List ℕ} {x₀ x : Two} {w : ℕ} {ws : List ℕ} → Turning samples x₀ x (w ∷ ws) → (r : TwoStepped) → r ≡ two_step x w → length r.after.buffers.a ≡ length x.buffers.a
+    → length r.after.buffers.b ≡ length x.buffers.b → Turning samples x₀ r.after ws
+unfolding two_steps
+turning_on {x = x} {w = w} g r e long_a long_b =
+    let (well, turns) = two_step_keeps x w g.well g.turns in
+    record {
+      same = rw e g.same;
+      well = rw e well;
+      turns = rw e turns;
+      laid = rw e (step_two_laid x w g.laid);
+      count = rw (e, step_two_samples x w) (omega (arith, g.count));
+      long_a = long_a ∙ g.long_a;
+      long_b = long_b ∙ g.long_b;
+    }
 
-module _ {samples : List ℕ} {x₀ x : Two} {i : ℕ} (g : Turning samples x₀ x i) where
-  pub turning_on : (r : TwoStepped) → i < length samples → r ≡ two_step x (get_or samples i 0) → length r.after.buffers.a ≡ length x.buffers.a
-      → length r.after.buffers.b ≡ length x.buffers.b → Turning samples x₀ r.after (i + 1)
-  unfolding two_steps
-  turning_on r inside e long_a long_b =
-      let w = get_or samples i 0 in
-      let (well, turns) = two_step_keeps x w g.well g.turns in
-      record {
-        same = rw (e, add-one) (rw (drop-cons samples i 0 inside) at g.same);
-        well = rw e well;
-        turns = rw e turns;
-        laid = rw e (step_two_laid x w g.laid);
-        count = rw (e, step_two_samples x w) (omega (arith, g.count));
-        long_a = long_a ∙ g.long_a;
-        long_b = long_b ∙ g.long_b;
-      }
+pub turning_far : {samples : List ℕ} {x₀ x : Two} {rest : List ℕ} → Turning samples x₀ x rest → (x' : Two) (xs ys : List ℕ) → xs ++ ys ≡ rest → x' ≡ two_steps x xs
+    → length x'.buffers.a ≡ length x.buffers.a → length x'.buffers.b ≡ length x.buffers.b → Turning samples x₀ x' ys
+turning_far {x = x} {rest = rest} g x' xs ys whole e long_a long_b =
+    let (laid, count) = along x xs g.laid in
+    let (well, turns) = two_steps_keep x xs g.well g.turns in
+    let long : length rest ≡ length xs + length ys = rw (← whole) (length-append xs ys) in
+    record {
+      same = rw e (sym (two_append x xs ys) ∙ ap (λ (ws : List ℕ). two_steps x ws) whole ∙ g.same);
+      well = rw e well;
+      turns = rw e turns;
+      laid = rw e laid;
+      count = rw e (omega (arith, count, long, g.count));
+      long_a = long_a ∙ g.long_a;
+      long_b = long_b ∙ g.long_b;
+    }
 
-  pub turning_far : (x' : Two) (k : ℕ) → i ≤ k → k ≤ length samples → x' ≡ two_steps x (take (k - i) (drop i samples)) → length x'.buffers.a ≡ length x.buffers.a
-      → length x'.buffers.b ≡ length x.buffers.b → Turning samples x₀ x' k
-  turning_far x' k le inside e long_a long_b =
-      let part = take (k - i) (drop i samples) in
-      let there : i + (k - i) ≡ k = omega arith in
-      let whole : part ++ drop k samples ≡ drop i samples =
-      ap (λ (ws : List ℕ). part ++ ws) (sym (drop-drop (k - i) i samples ∙ ap (λ (j : ℕ). drop j samples) there)) ∙ take-append-drop (k - i) (drop i samples) in
-      let long : length part ≡ k - i = length-take-le (k - i) (drop i samples) (rw length-drop (omega arith)) in
-      let (laid, count) = along x part g.laid in
-      let (well, turns) = two_steps_keep x part g.well g.turns in
-      record {
-        same = rw e (sym (two_append x part (drop k samples)) ∙ ap (λ (ws : List ℕ). two_steps x ws) whole ∙ g.same);
-        well = rw e well;
-        turns = rw e turns;
-        laid = rw e laid;
-        count = rw e (omega (arith, count, long, g.count));
-        long_a = long_a ∙ g.long_a;
-        long_b = long_b ∙ g.long_b;
-      }
-
-  pub turning_end : length samples ≤ i → two_steps x₀ samples ≡ x
-  unfolding two_steps
-  turning_end past = sym g.same ∙ ap (λ (ws : List ℕ). two_steps x ws) (drop_of_length-le samples past)
+pub turning_end : {samples : List ℕ} {x₀ x : Two} {rest : List ℕ} → Turning samples x₀ x rest → length rest ≡ 0 → two_steps x₀ samples ≡ x
+unfolding two_steps
+turning_end {rest = []} g none = sym g.same
+turning_end {rest = w ∷ ws} g none = absurd (omega (arith, none))

@@ -1,20 +1,17 @@
 -- What a sample or some samples with two frame buffers leave by value and in lent places, together (W2).
 use Rattle.std.specs.Prelude.{Bool, cond, not, ◌&&◌, List, [], ◌∷◌, ◌++◌, ℕ, ◌+◌, ◌<◌, ◌^◌}
-use Rattle.std.proofs.Math.Option.{Option, none, some}
 use Rattle.buffers.specs.Story as story
 use Rattle.buffers.specs.Kept as buffers_kept
-use Rattle.output.specs.Output.{with_place, Packed}
+use Rattle.output.specs.Output.{with_place}
+use Rattle.output.specs.declared.SampleAnswer.{SampleAnswer}
 use Rattle.rules.specs.declared.Capture.{Capture}
 use Rattle.rules.specs.declared.Core.{Core}
 use Rattle.rules.specs.State.{is_open}
 use Rattle.rules.specs.Sample.{capture_sample}
 use Rattle.board_rules.specs.TwoBuffers as buffer_rules
-use Rattle.output.specs.Answers.{packing}
 use Rattle.full_word.specs.Answers.{device}
 use Rattle.two_buffers.specs.declared.Kept.{Kept}
 use Rattle.two_buffers.specs.declared.Turned.{Turned}
-use Rattle.two_buffers.specs.declared.TwoLanding.{TwoLanding}
-use Rattle.two_buffers.specs.declared.TwoLanding.TheVariants as landing_cases
 use Rattle.two_buffers.specs.declared.TwoStepped.{TwoStepped}
 
 -- What is kept.
@@ -31,10 +28,10 @@ pub record TagsFit (k : buffers_kept.Kept) : Type 0 where
 abbrev pub closing_events : Bool → Bool → List story.Event
 closing_events error ended = cond error (story.discarded ∷ []) (cond ended (story.ended ∷ []) [])
 
-unfoldable pub events : Capture → ℕ → Core → Option ℕ → Packed → List story.Event
-events s w after landing packed =
-    buffer_rules.landing_event landing ++
-    (buffer_rules.word_event packed ++ closing_events (capture_sample s w).error (is_open s.frame && not (is_open after.capture.frame)))
+unfoldable pub events : Capture → ℕ → Core → SampleAnswer → List story.Event
+events s w after answer =
+    buffer_rules.landing_event answer.landing ++
+    (buffer_rules.word_event answer.packed ++ closing_events (capture_sample s w).error (is_open s.frame && not (is_open after.capture.frame)))
 
 -- The core with another place for the next word; with A's, and the turns.
 unfoldable pub placed : ℕ → Core → Core
@@ -50,10 +47,5 @@ pair a b = record { a = a; b = b }
 abbrev pub two : Turned → List ℕ → List ℕ → List ℕ → buffer_rules.Two
 two d slots a b = record { device = device d.core slots; turns = d.turns; buffers = pair a b }
 
--- Nowhere, or in a buffer at a byte.
-abbrev pub landing : TwoLanding → Option buffer_rules.Landing
-landing landing_cases.Nowhere = none
-landing (landing_cases.In u byte) = some (record { buffer = u; byte = byte })
-
 abbrev pub stepped : TwoStepped → List ℕ → List ℕ → List ℕ → buffer_rules.TwoStepped
-stepped r slots a b = record { after = two r.after slots a b; landing = landing r.landing; packed = packing r.packing }
+stepped r slots a b = record { after = two r.after slots a b; landing = r.answer.landing; packed = r.answer.packed }

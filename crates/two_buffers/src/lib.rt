@@ -9,7 +9,7 @@ ghost use Rattle.output.specs.Answers as output_answers;
 ghost use Rattle.output.specs.WellFormed.{Laid};
 ghost use Rattle.rules.specs.State.{is_open};
 ghost use Rattle.rules.specs.Sample as sample_rules;
-ghost use Rattle.output.specs.Output.{completed};
+ghost use Rattle.output.specs.declared.Packing.TheVariants.{Completed as completed};
 ghost use Rattle.rules.proofs.WellFormed.{WellFormed, CaptureOk};
 ghost use Rattle.board_rules.specs.TwoBuffers as buffer_rules;
 ghost use Rattle.board_rules.proofs.WellFormed.{TurnsOk};
@@ -22,12 +22,13 @@ ghost use Rattle.two_buffers.specs.Answers as two_answers;
 mod stretches;
 
 use crate::stretches::{run_stretch, stretch_end};
+use board_rules::{Landing, TwoAnswer};
 use buffers::{Buffer, Turns};
 use capture::frame::is_open;
 use coded_capture::coded_sample;
 use fields::control;
-use fifo::notes::{noted_landing, noted_packing};
-use output::{Landing, Packing, SLOTS};
+use fifo::notes::no_answer;
+use output::{Packing, SLOTS, SampleAnswer};
 use rules::{Capture, Core, Frame};
 use sampling::steps;
 use turning::{
@@ -49,18 +50,10 @@ pub struct Turned {
     pub turns: Turns,
 }
 
-// Where a word landed: in a buffer, at a byte of it.
-#[derive(Clone, Copy)]
-pub enum TwoLanding {
-    Nowhere,
-    In(Buffer, usize),
-}
-
-// What a sample leaves, and its two answers.
+// A sample's two answers, and what it leaves. The answers stand first for speed (docs/SPEED.md).
 #[derive(Clone, Copy)]
 pub struct TwoStepped {
-    pub landing: TwoLanding,
-    pub packing: Packing,
+    pub answer: TwoAnswer,
     pub after: Turned,
 }
 
@@ -69,64 +62,55 @@ fn landed_at(u: Buffer, place: u32, k: Kept) -> Kept
     requires { (0 < k.held) × (place + 1 < 2 ^ 32) }
     ensures { two_answers.kept result ≡ buffers_kept.landed_at u place (two_answers.kept k) }
 {
-    let mut turns = word_landed(k.held, k.turns);
+    let turns = word_landed(k.held, k.turns);
+    let held = k.held - 1;
     match u {
         Buffer::A => Kept {
             turns,
             place_a: place + 1,
-            held: k.held - 1,
+            held,
         },
-        Buffer::B => {
-            turns.place = place + 1;
-            Kept {
-                turns,
-                place_a: k.place_a,
-                held: k.held - 1,
-            }
-        }
+        Buffer::B => Kept {
+            turns: Turns {
+                place: place + 1,
+                ..turns
+            },
+            held,
+            ..k
+        },
     }
 }
 
 // A landing.
-fn after_landing(landing: Landing, k: Kept) -> Kept
+fn after_landing(landing: Option<usize>, k: Kept) -> Kept
     requires { oldest_at k.place_a k.turns + 1 < 2 ^ 32 }
-    ensures { two_answers.kept result ≡ buffers_kept.keeps (two_answers.kept k) (buffer_rules.landing_event (output_answers.landing landing)) }
+    ensures { two_answers.kept result ≡ buffers_kept.keeps (two_answers.kept k) (buffer_rules.landing_event landing) }
 {
-    let turns = k.turns;
     match landing {
-        Landing::Nowhere => k,
-        Landing::At(_) => {
-            if 0 < k.held {
-                return landed_at(oldest_buffer(turns), oldest_place(k.place_a, turns), k);
-            }
-            k
+        Some(_) if 0 < k.held => {
+            landed_at(oldest_buffer(k.turns), oldest_place(k.place_a, k.turns), k)
         }
+        _ => k,
     }
 }
 
 // A completed word: held, or lost.
 fn after_word(packing: Packing, k: Kept) -> Kept
-    requires { (v : ℕ) → output_answers.packing packing ≡ completed v → two_answers.TagsFit (two_answers.kept k) }
-    ensures { two_answers.kept result ≡ buffers_kept.keeps (two_answers.kept k) (buffer_rules.word_event (output_answers.packing packing)) }
+    requires { (v : ℕ) → packing ≡ completed v → two_answers.TagsFit (two_answers.kept k) }
+    ensures { two_answers.kept result ≡ buffers_kept.keeps (two_answers.kept k) (buffer_rules.word_event packing) }
 {
     match packing {
         Packing::Nothing => k,
-        Packing::Completed(_) => {
-            let turns = word_held(k.held, k.turns);
-            Kept {
-                turns,
-                place_a: k.place_a,
-                held: k.held + 1,
-            }
-        }
-        Packing::Lost => {
-            let turns = word_lost(k.turns);
-            Kept {
-                turns,
-                place_a: k.place_a,
-                held: 0,
-            }
-        }
+        Packing::Completed(_) => Kept {
+            turns: word_held(k.held, k.turns),
+            held: k.held + 1,
+            ..k
+        },
+        Packing::Lost => Kept {
+            turns: word_lost(k.turns),
+            held: 0,
+            ..k
+        },
     }
 }
 
@@ -135,22 +119,19 @@ fn after_frame(error: bool, ended: bool, k: Kept) -> Kept
     ensures { two_answers.kept result ≡ buffers_kept.keeps (two_answers.kept k) (two_answers.closing_events error ended) }
 {
     if error {
-        let turns = discarded(k.turns);
-        return Kept {
-            turns,
-            place_a: k.place_a,
+        Kept {
+            turns: discarded(k.turns),
             held: 0,
-        };
+            ..k
+        }
+    } else if ended {
+        Kept {
+            turns: frame_ended(k.held, k.turns),
+            ..k
+        }
+    } else {
+        k
     }
-    if ended {
-        let turns = frame_ended(k.held, k.turns);
-        return Kept {
-            turns,
-            place_a: k.place_a,
-            held: k.held,
-        };
-    }
-    k
 }
 
 // Whether ERR rises at a sample: with ESS 1 alone.
@@ -158,11 +139,7 @@ fn error_at(s: Capture, w: u32) -> bool
     requires { CaptureOk capture_answers.most_lines s }
     ensures { result ≡ (sample_rules.capture_sample s w).error }
 {
-    if control::embedded(s.registers.cr) {
-        let c = coded_sample(s, w);
-        return c.error;
-    }
-    false
+    control::embedded(s.registers.cr) && coded_sample(s, w).error
 }
 
 // A frame was open and is closed.
@@ -172,13 +149,10 @@ fn closes(before: Frame, after: Frame) -> bool
     is_open(before) && !is_open(after)
 }
 
-fn in_buffer(u: Buffer, landing: Landing) -> TwoLanding
-    ensures { two_answers.landing result ≡ buffer_rules.landing_in u (output_answers.landing landing) }
+fn in_buffer(u: Buffer, landing: Option<usize>) -> Option<Landing>
+    ensures { result ≡ buffer_rules.landing_in u landing }
 {
-    match landing {
-        Landing::Nowhere => TwoLanding::Nowhere,
-        Landing::At(byte) => TwoLanding::In(u, byte),
-    }
+    landing.map(|byte| Landing { buffer: u, byte })
 }
 
 // Some samples over one of the two frame buffers.
@@ -188,19 +162,18 @@ fn steps_in(
     slots: &mut [u32; SLOTS],
     a: &mut [u8],
     b: &mut [u8],
-    landings: &mut [usize; 2],
-    words: &mut [u32; 2],
+    answer: &mut SampleAnswer,
     samples: &[u32],
 ) -> Core
     requires well_formed { WellFormed (word_answers.device d slots.old) }
     requires laid { Laid (output_answers.left d.output slots.old) }
     requires samples_bound { d.output.counts.samples + length samples.now < 2 ^ 32 }
-    ensures words_after { sample_answers.noted result slots.new (buffer_rules.part u (two_answers.pair a.new b.new)) landings.new words.new ≡ note_rules.noted_steps (sample_answers.noted d slots.old (buffer_rules.part u (two_answers.pair a.old b.old)) landings.old words.old) samples.now }
+    ensures answer_after { sample_answers.noted result slots.new (buffer_rules.part u (two_answers.pair a.new b.new)) answer.new ≡ note_rules.noted_steps (sample_answers.noted d slots.old (buffer_rules.part u (two_answers.pair a.old b.old)) answer.old) samples.now }
     ensures b_after { two_answers.pair a.new b.new ≡ buffer_rules.with_part u (buffer_rules.part u (two_answers.pair a.new b.new)) (two_answers.pair a.old b.old) }
 {
     match u {
-        Buffer::A => steps(d, slots, a, landings, words, samples),
-        Buffer::B => steps(d, slots, b, landings, words, samples),
+        Buffer::A => steps(d, slots, a, answer, samples),
+        Buffer::B => steps(d, slots, b, answer, samples),
     }
 }
 
@@ -213,34 +186,23 @@ fn placed(place: u32, mut core: Core) -> Core
 }
 
 // What a sample leaves, from its answers.
-fn after_events(
-    k: Kept,
-    s: Capture,
-    core: Core,
-    landing: Landing,
-    packing: Packing,
-    w: u32,
-) -> Turned
+fn after_events(k: Kept, s: Capture, core: Core, answer: SampleAnswer, w: u32) -> Turned
     requires capture_ok { CaptureOk capture_answers.most_lines s }
     requires turns_bound { oldest_at k.place_a k.turns + 1 < 2 ^ 32 }
-    requires by_index { (v : ℕ) → output_answers.packing packing ≡ completed v → two_answers.TagsFit (buffers_kept.keeps (two_answers.kept k) (buffer_rules.landing_event (output_answers.landing landing))) }
-    ensures { result ≡ two_answers.turned (buffers_kept.keeps (two_answers.kept k) (two_answers.events s w core (output_answers.landing landing) (output_answers.packing packing))) core }
+    requires by_index { (v : ℕ) → answer.packed ≡ completed v → two_answers.TagsFit (buffers_kept.keeps (two_answers.kept k) (buffer_rules.landing_event answer.landing)) }
+    ensures { result ≡ two_answers.turned (buffers_kept.keeps (two_answers.kept k) (two_answers.events s w core answer)) core }
 {
-    let landed = after_landing(landing, k);
-    let worded = after_word(packing, landed);
-    let before = s.frame;
-    let now = core.capture;
-    let frame = now.frame;
-    let ended = closes(before, frame);
+    let landed = after_landing(answer.landing, k);
+    let worded = after_word(answer.packed, landed);
+    let ended = closes(s.frame, core.capture.frame);
     let last = after_frame(error_at(s, w), ended, worded);
-    let turns = last.turns;
     Turned {
         core: placed(last.place_a, core),
-        turns,
+        turns: last.turns,
     }
 }
 
-// One sample.
+// One sample. Here and in the other functions the slots and the frame buffers are lent and the rest goes by value, each by itself, for speed (docs/SPEED.md).
 pub fn two_step(
     d: Turned,
     slots: &mut [u32; SLOTS],
@@ -254,25 +216,21 @@ pub fn two_step(
     requires samples_bound { d.core.output.counts.samples + 1 < 2 ^ 32 }
     ensures { two_answers.stepped result slots.new a.new b.new ≡ buffer_rules.two_step (two_answers.two d slots.old a.old b.old) w }
 {
-    let s = d.core.capture;
-    let turns = d.turns;
     let k = Kept {
-        turns,
+        turns: d.turns,
         place_a: d.core.output.place,
         held: d.core.output.held,
     };
-    let u = oldest_buffer(turns);
-    let core = placed(oldest_place(k.place_a, turns), d.core);
-    let one = [w];
-    let mut landings = [0; 2];
-    let mut words = [0; 2];
-    let core = steps_in(u, core, slots, a, b, &mut landings, &mut words, &one);
-    let landing = noted_landing(landings);
-    let packing = noted_packing(words);
-    let after = after_events(k, s, core, landing, packing, w);
+    let u = oldest_buffer(k.turns);
+    let core = placed(oldest_place(k.place_a, k.turns), d.core);
+    let mut answer = no_answer();
+    let core = steps_in(u, core, slots, a, b, &mut answer, &[w]);
+    let after = after_events(k, d.core.capture, core, answer, w);
     TwoStepped {
-        landing: in_buffer(u, landing),
-        packing,
+        answer: TwoAnswer {
+            landing: in_buffer(u, answer.landing),
+            packed: answer.packed,
+        },
         after,
     }
 }
@@ -292,17 +250,16 @@ pub fn two_steps(
     ensures { two_answers.two result slots.new a.new b.new ≡ buffer_rules.two_steps (two_answers.two d slots.old a.old b.old) samples.now }
 {
     let mut e = d;
-    let mut i = 0;
-    while i < samples.len() {
-        let k = stretch_end(e.core, e.turns, a.len(), b.len(), samples, i);
-        if i < k {
-            e = run_stretch(e, slots, a, b, &samples[i..k]);
-            i = k;
+    let mut rest = samples;
+    while let Some((&w, later)) = rest.split_first() {
+        let n = stretch_end(e.core, e.turns, a.len(), b.len(), rest);
+        if n > 0 {
+            let (now, later) = rest.split_at(n);
+            e = run_stretch(e, slots, a, b, now);
+            rest = later;
         } else {
-            let w = samples[i];
-            let r = two_step(e, slots, a, b, w);
-            e = r.after;
-            i += 1;
+            e = two_step(e, slots, a, b, w).after;
+            rest = later;
         }
     }
     e

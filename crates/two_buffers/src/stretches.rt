@@ -19,6 +19,7 @@ use buffers::{Buffer, Content, Turns};
 use capture::frame::is_open;
 use capture::syncs::blanks;
 use fields::control;
+use fifo::notes::no_answer;
 use output::{Counts, Output, SLOTS};
 use rules::{Capture, Core};
 use samples::{level_end, vsync_pin};
@@ -43,11 +44,7 @@ fn tags_in(u: Buffer, held: u32) -> u32
 fn next_buffer(t: Turns) -> Buffer
     ensures { result ≡ stretch_rules.next_buffer t }
 {
-    let turn = t.turn;
-    if t.begun {
-        return turn;
-    }
-    other(turn)
+    if t.begun { t.turn } else { other(t.turn) }
 }
 
 // All held words are of that buffer, one after the other, and the oldest alone may open a frame.
@@ -55,36 +52,23 @@ fn alone(held: u32, t: Turns) -> bool
     requires { held ≤ 32 }
     ensures { result ≡ stretch_rules.alone held t }
 {
-    if held == 0 {
-        return true;
-    }
-    if t.begun {
-        let turn = t.turn;
-        if t.in_b == tags_in(turn, held) {
-            return t.opening <= 1;
-        }
-    }
-    false
+    held == 0 || (t.begun && t.in_b == tags_in(t.turn, held) && t.opening <= 1)
 }
 
 // Whether the first of the held words and those that come opens a frame; and the place where it lands.
 fn first_opens(held: u32, t: Turns) -> bool
     ensures { result ≡ stretch_rules.first_opens held t }
 {
-    if held == 0 {
-        return !t.begun;
-    }
-    oldest_opens(t)
+    if held == 0 { !t.begun } else { oldest_opens(t) }
 }
 
 fn first_place(held: u32, place_a: u32, t: Turns) -> u32
     ensures { result ≡ stretch_rules.first_place held place_a t }
 {
-    let u = next_buffer(t);
     if first_opens(held, t) {
         return 0;
     }
-    match u {
+    match next_buffer(t) {
         Buffer::A => place_a,
         Buffer::B => t.place,
     }
@@ -94,10 +78,7 @@ fn first_place(held: u32, place_a: u32, t: Turns) -> u32
 fn switched(completed: bool, t: Turns) -> Turns
     ensures { result ≡ cond completed (turn_rules.first_word t) t }
 {
-    if completed {
-        return first_word(t);
-    }
-    t
+    if completed { first_word(t) } else { t }
 }
 
 // A frame's first word has landed.
@@ -105,21 +86,17 @@ fn opened_in(landed: bool, u: Buffer, t: Turns) -> Turns
     ensures { result ≡ cond landed (turn_rules.with_content u Landing t) t }
 {
     if landed {
-        return with_content(u, Content::Landing, t);
+        with_content(u, Content::Landing, t)
+    } else {
+        t
     }
-    t
 }
 
 // The tags of the words that are held then.
 fn opening_in(opens: bool, held: u32) -> u32
     ensures { result ≡ stretch_rules.opening_in opens held }
 {
-    if opens {
-        if 0 < held {
-            return 1;
-        }
-    }
-    0
+    if opens && 0 < held { 1 } else { 0 }
 }
 
 fn tagged(lost: bool, u: Buffer, opens: bool, held: u32, t: Turns) -> Turns
@@ -127,25 +104,19 @@ fn tagged(lost: bool, u: Buffer, opens: bool, held: u32, t: Turns) -> Turns
     ensures { result ≡ cond lost (turn_rules.discarded t) (turn_rules.with_tags (stretch_rules.tags_in u held) (stretch_rules.opening_in opens held) t) }
 {
     if lost {
-        return discarded(t);
+        discarded(t)
+    } else {
+        with_tags(tags_in(u, held), opening_in(opens, held), t)
     }
-    with_tags(tags_in(u, held), opening_in(opens, held), t)
 }
 
 // B's place, and A's, once words have landed in one of them.
 fn place_b(u: Buffer, landed: bool, place: u32, t: Turns) -> Turns
     ensures { result ≡ stretch_rules.place_b u landed place t }
 {
-    let mut after = t;
     match u {
-        Buffer::A => after,
-        Buffer::B => {
-            if landed {
-                after.place = place;
-                return after;
-            }
-            after
-        }
+        Buffer::B if landed => Turns { place, ..t },
+        _ => t,
     }
 }
 
@@ -153,27 +124,9 @@ fn place_a(u: Buffer, landed: bool, place: u32, before: u32) -> u32
     ensures { result ≡ stretch_rules.place_a u landed place before }
 {
     match u {
-        Buffer::A => {
-            if landed {
-                return place;
-            }
-            before
-        }
-        Buffer::B => before,
+        Buffer::A if landed => place,
+        _ => before,
     }
-}
-
-// The first word opens a frame and has landed; or has not.
-fn opened(opens: bool, landed: bool) -> bool
-    ensures { result ≡ (opens && landed) }
-{
-    opens && landed
-}
-
-fn waiting(opens: bool, landed: bool) -> bool
-    ensures { result ≡ (opens && not landed) }
-{
-    opens && !landed
 }
 
 // The turns after a stretch, by the counts before and after it.
@@ -185,9 +138,9 @@ fn turns_after(t: Turns, held: u32, before: Counts, after: Output) -> Turns
     let landed = before.landed < after.counts.landed;
     let opens = first_opens(held, t);
     let s = switched(before.completed < after.counts.completed, t);
-    let k = opened_in(opened(opens, landed), u, s);
+    let k = opened_in(opens && landed, u, s);
     let lost = before.discarded < after.counts.discarded;
-    let m = tagged(lost, u, waiting(opens, landed), after.held, k);
+    let m = tagged(lost, u, opens && !landed, after.held, k);
     place_b(u, landed, after.place, m)
 }
 
@@ -211,9 +164,8 @@ fn run_on(
     let o = d.core.output;
     let u = next_buffer(t);
     let core = placed(first_place(o.held, o.place, t), d.core);
-    let mut landings = [0; 2];
-    let mut words = [0; 2];
-    let core = steps_in(u, core, slots, a, b, &mut landings, &mut words, samples);
+    let mut answer = no_answer();
+    let core = steps_in(u, core, slots, a, b, &mut answer, samples);
     let after = core.output;
     let landed = o.counts.landed < after.counts.landed;
     let turns = turns_after(t, o.held, o.counts, after);
@@ -228,15 +180,11 @@ fn run_on(
 fn no_room(o: Output, t: Turns, a: usize, b: usize) -> bool
     ensures { result ≡ stretch_rules.no_room o t a b }
 {
-    if o.held == 0 {
-        return false;
-    }
-    let u = oldest_buffer(t);
-    let end = 4 * (oldest_place(o.place, t) as usize) + 4;
-    match u {
-        Buffer::A => a < end,
-        Buffer::B => b < end,
-    }
+    let long = match oldest_buffer(t) {
+        Buffer::A => a,
+        Buffer::B => b,
+    };
+    o.held != 0 && long < 4 * (oldest_place(o.place, t) as usize) + 4
 }
 
 // The tag of a word that comes behind so many others, where it opens a frame; and the turns with words held behind those that were, so many before and so many in all.
@@ -244,10 +192,7 @@ fn opening_behind(begun: bool, before: u32) -> u32
     requires { before < 32 }
     ensures { result ≡ stretch_rules.opening_behind begun before }
 {
-    if begun {
-        return 0;
-    }
-    1 << before
+    if begun { 0 } else { 1 << before }
 }
 
 fn words_behind(before: u32, held: u32, t: Turns) -> Turns
@@ -255,8 +200,7 @@ fn words_behind(before: u32, held: u32, t: Turns) -> Turns
     ensures { result ≡ stretch_rules.words_behind before held t }
 {
     let s = first_word(t);
-    let turn = s.turn;
-    let more = tags_in(turn, held) - tags_in(turn, before);
+    let more = tags_in(s.turn, held) - tags_in(s.turn, before);
     with_tags(
         t.in_b + more,
         t.opening + opening_behind(t.begun, before),
@@ -270,15 +214,16 @@ fn turns_behind(before: u32, lost: bool, held: u32, t: Turns) -> Turns
     ensures { result ≡ stretch_rules.turns_behind before lost held t }
 {
     if lost {
-        return word_lost(t);
+        word_lost(t)
+    } else if before < held {
+        words_behind(before, held, t)
+    } else {
+        t
     }
-    if before < held {
-        return words_behind(before, held, t);
-    }
-    t
 }
 
-// A stretch while the oldest held word has no room: words that come are held behind the others, or lost.
+// A stretch while the oldest held word has no room: words that come are held behind the others, or lost. With `run_on` it shares two calls alone: buffer, place and turns are each found by rules of
+// their own, so a function for both would take these as closures and read no plainer.
 fn run_behind(
     d: Turned,
     slots: &mut [u32; SLOTS],
@@ -298,9 +243,8 @@ fn run_behind(
     let o = d.core.output;
     let u = oldest_buffer(t);
     let core = placed(oldest_place(o.place, t), d.core);
-    let mut landings = [0; 2];
-    let mut words = [0; 2];
-    let core = steps_in(u, core, slots, a, b, &mut landings, &mut words, samples);
+    let mut answer = no_answer();
+    let core = steps_in(u, core, slots, a, b, &mut answer, samples);
     let after = core.output;
     let lost = o.counts.discarded < after.counts.discarded;
     let turns = turns_behind(o.held, lost, after.held, t);
@@ -327,36 +271,33 @@ pub fn run_stretch(
     ensures { two_answers.two result slots.new a.new b.new ≡ buffer_rules.two_steps (two_answers.two d slots.old a.old b.old) samples.now }
 {
     if alone(d.core.output.held, d.turns) {
-        return run_on(d, slots, a, b, samples);
+        run_on(d, slots, a, b, samples)
+    } else {
+        run_behind(d, slots, a, b, samples)
     }
-    run_behind(d, slots, a, b, samples)
 }
 
 // Vertical blanking with no frame open, or no vertical blanking.
 fn goes_on(blank: bool, in_frame: bool) -> bool
     ensures { result ≡ stretch_rules.goes_on blank in_frame }
 {
-    if blank {
-        return !in_frame;
-    }
-    true
+    !blank || !in_frame
 }
 
-// How far such samples reach from `first` on: data up to the next byte that may begin a code, or those of one level of VSYNC; `first` where there are none.
-fn lasting_end(s: Capture, samples: &[u32], first: usize) -> usize
-    requires { first < length samples.now }
-    ensures { result ≡ stretch_rules.lasting_end s samples.now first }
+// How many such samples come first: data up to the next byte that may begin a code, or those of one level of VSYNC.
+fn lasting_end(s: Capture, samples: &[u32]) -> usize
+    requires { 0 < length samples.now }
+    ensures { result ≡ stretch_rules.lasting_end s samples.now 0 }
 {
     let cr = s.registers.cr;
     if control::embedded(cr) {
-        return data_end(s, samples, first);
+        return data_end(s, samples, 0);
     }
-    let frame = s.frame;
-    let w = samples[first];
-    if goes_on(blanks(vsync_pin(w), control::vspol(cr)), is_open(frame)) {
-        return level_end(samples, first, w);
+    let w = samples[0];
+    if goes_on(blanks(vsync_pin(w), control::vspol(cr)), is_open(s.frame)) {
+        return level_end(samples, 0, w);
     }
-    first
+    0
 }
 
 // Held words that let a stretch run.
@@ -364,19 +305,17 @@ fn runs(o: Output, t: Turns, a: usize, b: usize) -> bool
     requires { o.held ≤ 32 }
     ensures { result ≡ stretch_rules.runs o t a b }
 {
-    if alone(o.held, t) {
-        return true;
-    }
-    no_room(o, t, a, b)
+    alone(o.held, t) || no_room(o, t, a, b)
 }
 
-// How far the samples from `first` on are one stretch; `first` where they begin none.
-pub fn stretch_end(core: Core, t: Turns, a: usize, b: usize, samples: &[u32], first: usize) -> usize
-    requires { (core.output.held ≤ 32) × (first < length samples.now) }
-    ensures { result ≡ stretch_rules.stretch_end core t a b samples.now first }
+// How many of the samples are one stretch; 0 where they begin none.
+pub fn stretch_end(core: Core, t: Turns, a: usize, b: usize, samples: &[u32]) -> usize
+    requires { (core.output.held ≤ 32) × (0 < length samples.now) }
+    ensures { result ≡ stretch_rules.stretch_end core t a b samples.now 0 }
 {
     if runs(core.output, t, a, b) {
-        return lasting_end(core.capture, samples, first);
+        lasting_end(core.capture, samples)
+    } else {
+        0
     }
-    first
 }

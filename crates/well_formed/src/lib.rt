@@ -27,58 +27,45 @@ fn used(cr: u32, count: u32) -> u64
 fn above(bits: u32, used: u64) -> bool
     ensures { result ≡ not (eqb (bits / 2 ^ used) 0) }
 {
-    if 32 <= used {
-        return false;
-    }
-    bits as u64 >> used != 0
+    used < 32 && bits >> used != 0
 }
 
+#[tactic(auto, unfolding(rules::specs::WellFormed::unused_bits))]
 fn unused_bits(s: Capture) -> bool
     ensures { result ≡ device_clauses.unused_bits s }
 {
     above(s.partial.bits, used(s.registers.cr, s.partial.count))
 }
 
+#[tactic(auto, unfolding(rules::specs::WellFormed::full_partial))]
 fn full_partial(s: Capture) -> bool
     ensures { result ≡ device_clauses.full_partial s }
 {
     per_word(control::edm(s.registers.cr)) <= s.partial.count
 }
 
+#[tactic(auto, unfolding(rules::specs::WellFormed::excluded))]
 fn excluded(r: Registers) -> bool
     ensures { result ≡ device_clauses.excluded r }
 {
-    if map::reserved_set(Register::Control, r.cr) {
-        return true;
-    }
-    if map::reserved_set(Register::InterruptEnable, r.ier) {
-        return true;
-    }
-    if map::reserved_set(Register::WindowStart, r.cwstrt) {
-        return true;
-    }
-    if map::reserved_set(Register::WindowSize, r.cwsize) {
-        return true;
-    }
-    control::unsupported(r.cr)
+    map::reserved_set(Register::Control, r.cr)
+        || map::reserved_set(Register::InterruptEnable, r.ier)
+        || map::reserved_set(Register::WindowStart, r.cwstrt)
+        || map::reserved_set(Register::WindowSize, r.cwsize)
+        || control::unsupported(r.cr)
 }
 
+#[tactic(auto, unfolding(rules::specs::WellFormed::bad_flags))]
 fn bad_flags(r: Registers) -> bool
     ensures { result ≡ device_clauses.bad_flags r }
 {
-    if 31 < r.ris {
-        return true;
-    }
-    31 < r.ier
+    31 < r.ris || 31 < r.ier
 }
 
 fn is_taken(f: Frame) -> bool
     ensures { result ≡ state.is_taken f }
 {
-    match f {
-        Frame::Closed => false,
-        Frame::Open(taken, _) => taken,
-    }
+    matches!(f, Frame::Open(true, _))
 }
 
 fn lines(f: Frame) -> u32
@@ -99,57 +86,42 @@ fn pixels(f: Frame) -> u32
     }
 }
 
+#[tactic(auto, unfolding(rules::specs::WellFormed::active_disabled))]
 fn active_disabled(d: Device) -> bool
     ensures { result ≡ device_clauses.active_disabled d }
 {
     let s = d.core.capture;
-    let frame = s.frame;
-    if control::enable(s.registers.cr) {
-        return false;
-    }
-    if is_open(frame) {
-        return true;
-    }
-    if 0 < d.core.output.held {
-        return true;
-    }
-    if 0 < s.partial.count {
-        return true;
-    }
-    0 < s.rate
+    !control::enable(s.registers.cr)
+        && (is_open(s.frame) || 0 < d.core.output.held || 0 < s.partial.count || 0 < s.rate)
 }
 
+#[tactic(auto, unfolding(rules::specs::WellFormed::partial_outside))]
 fn partial_outside(s: Capture) -> bool
     ensures { result ≡ device_clauses.partial_outside s }
 {
-    let frame = s.frame;
-    if 0 < s.partial.count {
-        return !is_taken(frame);
-    }
-    false
+    0 < s.partial.count && !is_taken(s.frame)
 }
 
+#[tactic(auto, unfolding(rules::specs::WellFormed::bad_rate))]
 fn bad_rate(s: Capture) -> bool
     ensures { result ≡ device_clauses.bad_rate s }
 {
     rate_period(s.registers.cr) <= s.rate
 }
 
+#[tactic(auto, unfolding(rules::specs::WellFormed::above_samples))]
 fn above_samples(d: Device) -> bool
     ensures { result ≡ device_clauses.above_samples d }
 {
-    let s = d.core.capture;
-    let frame = s.frame;
-    if d.core.output.counts.samples < lines(frame) {
-        return true;
-    }
-    if d.core.output.counts.samples < pixels(frame) {
-        return true;
-    }
-    d.core.output.counts.samples < d.core.output.counts.completed
+    let frame = d.core.capture.frame;
+    let counts = d.core.output.counts;
+    counts.samples < lines(frame)
+        || counts.samples < pixels(frame)
+        || counts.samples < counts.completed
 }
 
 // Whether the device of a core and lent slots is malformed.
+#[tactic(auto, unfolding(rules::specs::WellFormed::malformed))]
 pub fn malformed_core(core: Core, slots: &[u32; SLOTS]) -> bool
     requires { length slots.now ≡ slot_count }
     ensures { result ≡ device_clauses.malformed (record { core = core; slots = slots.now }) }
@@ -161,40 +133,18 @@ pub fn malformed_core(core: Core, slots: &[u32; SLOTS]) -> bool
         core,
         slots: *slots,
     };
-    if bad_fifo(o, slots) {
-        return true;
-    }
-    if unused_bits(s) {
-        return true;
-    }
-    if full_partial(s) {
-        return true;
-    }
-    if excluded(r) {
-        return true;
-    }
-    if bad_flags(r) {
-        return true;
-    }
-    if active_disabled(d) {
-        return true;
-    }
-    if partial_outside(s) {
-        return true;
-    }
-    if bad_rate(s) {
-        return true;
-    }
-    if above_samples(d) {
-        return true;
-    }
-    if bad_place(o) {
-        return true;
-    }
-    if bad_counts(o) {
-        return true;
-    }
-    bad_depth(o.depth)
+    bad_fifo(o, slots)
+        || unused_bits(s)
+        || full_partial(s)
+        || excluded(r)
+        || bad_flags(r)
+        || active_disabled(d)
+        || partial_outside(s)
+        || bad_rate(s)
+        || above_samples(d)
+        || bad_place(o)
+        || bad_counts(o)
+        || bad_depth(o.depth)
 }
 
 // Whether the device is malformed.

@@ -4,4 +4,4 @@ use Rattle.board_words.proofs.board_of.Goals as goal
 
 pub returns : goal.returns
 unfolding board_of
-returns c = rw (c.mode_of-mode.ensures, c.device_of-device.ensures, c.device_part.ensures)
+returns c = rw (c.device_of.ensures, c.device_part.ensures, c.mode_of.ensures, c.mode_part.ensures)

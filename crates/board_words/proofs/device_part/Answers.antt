@@ -6,6 +6,12 @@ use Rattle.image_rules.specs.Image.{image_words}
 use Rattle.image_rules.proofs.Inverse.{put_whole}
 use Rattle.board_words.proofs.device_part.Goals as goal
 
+pub slice_bounds-put-end-2 : goal.slice_bounds-put-end-2
+slice_bounds-put-end-2 c = rw length-take (omega arith)
+
+pub put-requires : goal.put-requires
+put-requires c = rw length-take (omega arith)
+
 pub returns : goal.returns
 returns c = let w = c.args.w in
     let all : length (take image_words w) ≡ image_words = rw length-take (omega arith) in

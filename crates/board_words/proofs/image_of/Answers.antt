@@ -8,8 +8,8 @@ use Rattle.board_words.proofs.image_of.Goals as goal
 
 pub returns : goal.returns
 unfolding image_of
-returns c = let behind = c.mode_words-behind in
-    let device = c.image_of-device in
+returns c = let behind = c.mode_words in
+    let device = c.image_of in
     rw (
       c.put-2.ensures,
       c.put.ensures,

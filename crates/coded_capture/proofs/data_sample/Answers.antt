@@ -1,5 +1,5 @@
 -- `coded_capture::data_sample` meets its contract. Assumes nothing.
-use mathlib.Core.Path.{refl, sym, ◌∙◌}
+use mathlib.Core.Path.{sym, ◌∙◌}
 use Rattle.rules.specs.Sample.{byte_of, edge, capture_sample}
 use Rattle.capture.proofs.Laws.{pins_ok}
 use Rattle.coded_capture.proofs.DataLaws.{pins_wait, no_code}
@@ -7,8 +7,8 @@ use Rattle.coded_capture.proofs.data_sample.Goals as goal
 
 pub line_datum-requires : goal.line_datum-requires
 unfolding byte_of
-line_datum-requires c = let empty = pins_wait _ _ c.remember_pins-seen.ensures (rw c.apart-s.ensures c.requires.cr_value.1) in record {
-  frame_value = (refl, empty, rw c.pixel_data.ensures c.requires.cr_value.2);
+line_datum-requires c = record {
+  waiting_value = (pins_wait _ _ c.remember_pins-seen.ensures (rw c.apart-s.ensures c.requires.cr_value.1), rw c.pixel_data.ensures c.requires.cr_value.2);
   capture_ok = rw (c.remember_pins-seen.ensures, c.apart-s.ensures) (pins_ok _ c.requires.capture_ok);
 }
 
@@ -24,8 +24,3 @@ returns-then-goes_on c = let empty = pins_wait _ _ c.remember_pins-seen.ensures 
       no_code c.remember_pins-seen.result _ empty,
     )
     c.line_datum.ensures
-
-pub returns : goal.returns
-unfolding capture_sample
-returns c = rw (← c.apart-s.ensures, sym c.goes_on.ensures ∙ c.if-goes_on.false, ← c.remember_pins-seen.ensures)
-    c.none_released.ensures

@@ -1,48 +1,35 @@
 -- `coded_capture::each_datum` meets its contract. Assumes nothing.
-use borrow.Author.Tests.{eq-eqb, ne_eqb}
-use Rattle.codes.specs.Bytes.{waiting_after, released}
+use mathlib.Core.Path.{refl, sym, ◌∙◌}
+use Rattle.std.proofs.Common.{get_or}
 use Rattle.laws.proofs.Packing.{datum_joins}
-use Rattle.rules.specs.Codes.{each_datum}
+use Rattle.coded_capture.proofs.DataLaws.{datum_keeps, from_start, more_left, next_taken, or_either, all_taken}
 use Rattle.coded_capture.proofs.each_datum.Goals as goal
 
-pub returns-then-x-eq255 : goal.returns-then-x-eq255
-unfolding released each_datum
-returns-then-x-eq255 c = rw (c.in-Zero.is, eq-eqb _ _ c.if-x-eq255.true) c.none_released.ensures
+pub loop-x-init : goal.loop-x-init
+loop-x-init c = let a = c.args in record {
+  in_frame = c.requires.frame_value.0;
+  ok = c.requires.capture_ok;
+  left = refl;
+  same = sym (from_start a.s a.taken a.f a.data.now a.still);
+}
 
-pub one_datum-requires : goal.one_datum-requires
-one_datum-requires c = datum_joins c.args.s c.args.x c.requires.capture_ok
+pub overflow_sub-later : goal.overflow_sub-later
+overflow_sub-later c = more_left c.args.data.now _ c.args.still _ c.loop-x-test.true c.loop-x.invariant.left
 
-pub returns-then-x-eq0 : goal.returns-then-x-eq0
-unfolding released each_datum
-returns-then-x-eq0 c = rw (c.in-One.is, eq-eqb _ _ c.if-x-eq0.true) c.none_released-then-x-eq0.ensures
+pub datum-c-requires : goal.datum-c-requires
+datum-c-requires c = datum_joins c.loop-x.state _ c.loop-x.invariant.ok
 
-pub one_datum-requires-then-x-eq255-2 : goal.one_datum-requires-then-x-eq255-2
-one_datum-requires-then-x-eq255-2 c = datum_joins c.args.s 255 c.requires.capture_ok
+pub loop-x-preserved : goal.loop-x-preserved
+loop-x-preserved c = let a = c.args in
+    let l = c.loop-x in
+    let v = c.datum-c.result in
+    let x = get_or a.data.now l.x-index 0 in
+    let kept = datum_keeps l.state a.taken a.f c.before-in-loop-x.result x v c.datum-c.ensures l.invariant.in_frame l.invariant.ok in
+    let (next, rest) = next_taken l.state a.taken a.f a.data.now l.x-index a.still l.later l.word c.or-word.result v c.loop-x-test.true
+    l.invariant.left (rw (← c.before-in-loop-x.ensures) c.datum-c.ensures) (c.or-word.ensures ∙ or_either l.word v.word) in
+    record { in_frame = kept.0; ok = kept.1; left = next; same = l.invariant.same ∙ rest }
 
-pub returns-then-x-eq255-2 : goal.returns-then-x-eq255-2
-unfolding released waiting_after
-returns-then-x-eq255-2 c = rw (c.in-One.is, ne_eqb _ _ c.if-x-eq0.false, eq-eqb _ _ c.if-x-eq255-2.true) c.one_datum-then-x-eq255-2.ensures
-
-pub returns-then-x-eq0-2 : goal.returns-then-x-eq0-2
-unfolding released each_datum
-returns-then-x-eq0-2 c = rw (c.in-Two.is, eq-eqb _ _ c.if-x-eq0-2.true) c.none_released-then-x-eq0-2.ensures
-
-pub returns-then-x-eq255-3 : goal.returns-then-x-eq255-3
-unfolding released waiting_after
-returns-then-x-eq255-3 c = rw (c.in-Two.is, ne_eqb _ _ c.if-x-eq0-2.false, eq-eqb _ _ c.if-x-eq255-3.true) c.two_data-then-x-eq255-3.ensures
-
-pub returns-else-x-eq255 : goal.returns-else-x-eq255
-unfolding released waiting_after
-returns-else-x-eq255 c = rw (c.in-Zero.is, ne_eqb _ _ c.if-x-eq255.false) c.one_datum.ensures
-
-pub returns-else-x-eq255-2 : goal.returns-else-x-eq255-2
-unfolding released waiting_after
-returns-else-x-eq255-2 c = rw (c.in-One.is, ne_eqb _ _ c.if-x-eq0.false, ne_eqb _ _ c.if-x-eq255-2.false) c.two_data.ensures
-
-pub returns-else-x-eq255-3 : goal.returns-else-x-eq255-3
-unfolding released waiting_after
-returns-else-x-eq255-3 c = rw (c.in-Two.is, ne_eqb _ _ c.if-x-eq0-2.false, ne_eqb _ _ c.if-x-eq255-3.false) c.three_data.ensures
-
-pub returns-in-Three : goal.returns-in-Three
-unfolding released each_datum
-returns-in-Three c = rw c.in-Three.is c.none_released-in-Three.ensures
+pub returns : goal.returns
+returns c = let a = c.args in
+    let l = c.loop-x in
+    sym (l.invariant.same ∙ all_taken l.state a.taken a.f a.data.now l.x-index a.still l.word c.loop-x-test.false)

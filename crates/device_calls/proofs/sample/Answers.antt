@@ -1,29 +1,17 @@
 -- `device_calls::sample` meets its contract. Assumes nothing.
-use mathlib.Core.Path.{◌∙◌}
+use Rattle.std.proofs.Common.{rules}
 use Rattle.board.proofs.Modes.{sample_one, sample_two}
-use Rattle.device_calls.proofs.Stored.{sampled}
 use Rattle.call_rules.specs.DeviceCalls.{sample}
 use Rattle.device_calls.proofs.sample.Goals as goal
 
-pub returns-in-One : goal.returns-in-One
+pub returns-in_default : goal.returns-in_default
 unfolding sample
-returns-in-One c = let a = c.args in
-    let found = c.board_of-b in
-    sampled a.image.now a.answer.now _ _ _ c.sample_core-after.result (c.put_sampled.ensures _ _) c.sample_core-after.ensures
-    (sample_one found.result _ _ _ c.in-One.is) ∙
-    rw (found.ensures, ← c.encodes.ensures, c.if-encodes.true)
+returns-in_default c = let refused = sample_two c.in_ok-b.b _ c.args.memory.now c.args.start c.args.sample c.in_default.is in search rules
 
-pub returns-in-Two : goal.returns-in-Two
+pub returns-in_err-after : goal.returns-in_err-after
 unfolding sample
-returns-in-Two c = let found = c.board_of-b in
-    rw (
-      ← c.encodes.ensures,
-      c.if-encodes.true,
-      ← found.ensures,
-      sample_two found.result _ _ _ _ c.in-Two.is,
-      c.unmatched_number.ensures,
-    )
+returns-in_err-after c = let same = sample_one c.in_ok-b.b c.args.memory.now c.args.start c.args.sample c.in-One.is in search rules
 
 pub returns : goal.returns
 unfolding sample
-returns c = rw (← c.encodes.ensures, c.if-encodes.false)
+returns c = let same = sample_one c.in_ok-b.b c.args.memory.now c.args.start c.args.sample c.in-One.is in search rules

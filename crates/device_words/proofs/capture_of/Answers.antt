@@ -3,4 +3,4 @@ use lib.Seq.{get_or-drop}
 use Rattle.device_words.proofs.capture_of.Goals as goal
 
 pub returns : goal.returns
-returns c = rw (c.waiting_of-waiting.ensures, c.frame_of-frame.ensures) (simp get_or-drop)
+returns c = rw (c.waiting_of.ensures, c.frame_of.ensures) (simp get_or-drop)

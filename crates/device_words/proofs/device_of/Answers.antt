@@ -14,6 +14,6 @@ returns c = let w = c.args.w in
     rw (
       c.put.ensures,
       put_whole (replicate slot_count 0) _ all,
-      c.output_of-output.ensures,
-      c.capture_of-capture.ensures,
+      c.output_of.ensures,
+      c.capture_of.ensures,
     )

@@ -20,8 +20,8 @@ returns c =
       c.put-3.ensures,
       c.put-2.ensures,
       c.put.ensures,
-      c.words_behind-behind.ensures,
-      c.words_before-before.ensures,
+      c.words_behind.ensures,
+      c.words_before.ensures,
       all,
       take_all slot_count c.args.d.slots (omega arith),
     )

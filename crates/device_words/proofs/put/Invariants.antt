@@ -1,12 +1,8 @@
 -- `device_words::put` meets its contract. Assumes nothing.
 use mathlib.Core.Path.{◌≡◌}
-use Prim.Native.Nat.{◌-◌, ◌≤◌}
 use lib.ListN.{length}
 use lib.Seq.{paste}
 use Rattle.device_words.proofs.put.Given as goal
 
 abbrev pub invariant-loop-i : goal.invariant-loop-i
-invariant-loop-i l = (l.words ≡ paste l.initial.words l.at l.part l.i) × (length l.words ≡ length l.initial.words) × (l.i ≤ length l.part)
-
-abbrev pub decreases-loop-i : goal.decreases-loop-i
-decreases-loop-i l = length l.part - l.i
+invariant-loop-i l = (l.words ≡ paste l.initial.words l.at l.part l.i) × (length l.words ≡ length l.initial.words)

@@ -1,8 +1,7 @@
 -- `fifo::discard` meets its contract. Assumes nothing.
 use Rattle.output.specs.Output.{laid, with_held, holding, with_counts, count_discarded, discard}
-use native.Mathlib.Nat.{add_assoc}
 use Rattle.fifo.proofs.discard.Goals as goal
 
 pub returns : goal.returns
 unfolding laid with_held holding with_counts count_discarded discard
-returns c = rw (c.apart-after.ensures, ← add_assoc)
+returns c = rw c.apart-after.ensures

@@ -1,40 +1,18 @@
 -- `fifo::move_down` meets its contract. Assumes nothing.
+use mathlib.Core.List.{◌++◌}
+use mathlib.Core.Path.{◌≡◌}
+use Prim.Native.Nat.{suc, ◌-◌}
+use native.Mathlib.Nat.{zero-add}
 use native.Mathlib.Omega.{arith}
-use Rattle.fifo.proofs.Moving.{starts, moves, moved}
+use lib.ListN.{length, take, drop, get_or, length-drop}
+use lib.Seq.{length-take-le, drop-cons, set_at}
 use Rattle.fifo.proofs.move_down.Goals as goal
 
-pub loop-i-init : goal.loop-i-init
-loop-i-init c = starts _ _ c.requires.slots_len c.requires.held_nonzero.0 c.requires.held_nonzero.1
-
-pub loop-i-preserved : goal.loop-i-preserved
-loop-i-preserved c = moves c.loop-i.invariant c.loop-i-test.true
-
 pub returns : goal.returns
-returns c = moved c.loop-i.invariant c.loop-i-test.false
-
-pub overflow_add-i : goal.overflow_add-i
-overflow_add-i c = omega (arith, c.loop-i.invariant.within, c.loop-i.invariant.few)
-
-pub overflow_add-slots : goal.overflow_add-slots
-overflow_add-slots c = omega (arith, c.loop-i.invariant.few)
-
-pub offset_bounds-slots-i : goal.offset_bounds-slots-i
-offset_bounds-slots-i c = omega (arith, c.loop-i.invariant.few)
-
-pub bounds-slots-i : goal.bounds-slots-i
-bounds-slots-i c = omega (arith, c.loop-i.invariant.few)
-
-pub offset_bounds-slots-i-in-loop-i : goal.offset_bounds-slots-i-in-loop-i
-offset_bounds-slots-i-in-loop-i c = omega (arith, c.loop-i.invariant.few)
-
-pub bounds-slots-i-in-loop-i : goal.bounds-slots-i-in-loop-i
-bounds-slots-i-in-loop-i c = omega (arith, c.loop-i.invariant.few)
-
-pub overflow_add-i-in-loop-i : goal.overflow_add-i-in-loop-i
-overflow_add-i-in-loop-i c = omega (arith, c.loop-i.invariant.few)
-
-pub offset_bounds-slots-i-2 : goal.offset_bounds-slots-i-2
-offset_bounds-slots-i-2 c = omega (arith, c.loop-i.invariant.few, c.loop-i.invariant.within)
-
-pub bounds-slots-i-2 : goal.bounds-slots-i-2
-bounds-slots-i-2 c = omega (arith, c.loop-i.invariant.few, c.loop-i.invariant.within)
+returns c =
+    let s = c.args.slots.now in
+    let last = c.args.held - 1 in
+    let behind : suc last ≡ c.args.held = omega arith in
+    let copied : c.copy_within.new.self ≡ take last (drop 1 s) ++ drop last s = simp zero-add at c.copy_within.ensures.after in
+    let moved : length (take last (drop 1 s)) ≡ last = length-take-le last (drop 1 s) (rw length-drop (omega arith)) in
+    rw (copied, drop-cons s last 0 (omega arith), set_at (take last (drop 1 s)) (get_or s last 0) (drop (suc last) s) 0 last moved, behind)

@@ -17,6 +17,6 @@ returns-then-o c = let a = c.args in
     let space = c.if-o.true in
     rw (lt-ltb _ _ space, c.one_more.ensures, c.count_word-counted.ensures, taken_in x l a.v (omega (arith, space, l.within)))
 
-pub returns : goal.returns
+pub returns-else-o : goal.returns-else-o
 unfolding offer
-returns c = rw (le-ltb _ _ c.if-o.false, c.count_word-counted.ensures)
+returns-else-o c = rw (le-ltb _ _ c.if-o.false, c.count_word-counted.ensures)

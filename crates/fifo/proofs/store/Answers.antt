@@ -1,20 +1,14 @@
 -- `fifo::store` meets its contract. Assumes nothing.
-use lib.ListN.{length-set}
-use lib.Seq.{sets-eq}
-use native.Mathlib.Numerals.{add-two, add-one, add-three}
+use mathlib.Core.List.{List, [], ◌∷◌}
+use mathlib.Core.Path.{refl, ◌∙◌}
+use Prim.Native.Nat.{ℕ, ◌/◌, ◌%◌}
 use native.Mathlib.Omega.{arith}
 use Rattle.numbers.proofs.Numbers.{four_bytes}
+use Rattle.std.proofs.lemmas.Slice.{put_mid-paste}
 use Rattle.fifo.proofs.store.Goals as goal
 
-pub bounds-buffer-at-2 : goal.bounds-buffer-at-2
-bounds-buffer-at-2 c = simp length-set (omega (arith, c.requires))
-
-pub bounds-buffer-at-3 : goal.bounds-buffer-at-3
-bounds-buffer-at-3 c = simp length-set (omega (arith, c.requires))
-
-pub bounds-buffer-at-4 : goal.bounds-buffer-at-4
-bounds-buffer-at-4 c = simp length-set (omega (arith, c.requires))
-
 pub returns : goal.returns
-returns c = rw (add-one, add-two, add-three, four_bytes c.args.v)
-    (sets-eq _ c.args.buffer.now c.args.at c.requires)
+returns c =
+    let v = c.args.v in
+    let bytes : List ℕ = v % 256 ∷ v / 256 % 256 ∷ v / 65536 % 256 ∷ v / 16777216 % 256 ∷ [] in
+    rw (four_bytes v) (put_mid-paste c.args.at _ c.args.buffer.now _ bytes 4 (c.copy_from_slice.ensures.after ∙ c.to_le_bytes.ensures) (omega arith) refl)

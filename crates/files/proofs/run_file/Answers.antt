@@ -4,6 +4,3 @@ use Rattle.files.proofs.run_file.Goals as goal
 
 pub run_on-requires : goal.run_on-requires
 run_on-requires c = rw c.fresh.ensures fresh_ready
-
-pub returns : goal.returns
-returns c = rw (c.run_on.ensures, c.fresh.ensures)

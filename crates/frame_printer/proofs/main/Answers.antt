@@ -1,9 +1,9 @@
 -- `frame_printer::main` meets its contract: what has come are parts of a file, and each read brings a byte more.
-use Rattle.std.proofs.Common.{◌<◌, arith, ap, take}
+use Rattle.std.proofs.Common.{◌<◌, length, arith, ap, take}
 use Rattle.file_rules.specs.Parts.{Taken}
 use Rattle.parts.specs.Answers.{taken}
 use Rattle.file_rules.proofs.Growing.{grows, wanted_wants}
-use Rattle.frame_printer.proofs.Reading.{some_bytes, opened_by_parts, by_part}
+use Rattle.frame_printer.proofs.Reading.{opened_by_parts, by_part}
 use Rattle.frame_printer.proofs.main.Goals as goal
 
 pub loop-n-init : goal.loop-n-init
@@ -11,11 +11,13 @@ loop-n-init c = opened_by_parts c.open-p.result _ c.open-p.ensures c.fresh.ensur
 
 pub loop-n-smaller : goal.loop-n-smaller
 loop-n-smaller c =
-    let given = some_bytes c.read-next.result c.read-next.new.buffer c.wanted.result c.in-Bytes.n c.in-Bytes.is c.read-next.ensures in
-    let asked : 0 < c.wanted.result = omega (arith, given.some, given.few) in
+    let read = c.in-Ok-1-to-max in
+    let given = rw read.is at c.read.ensures in
+    let asked : 0 < c.wanted.result = omega (arith, given.0) in
     let more = wanted_wants c.loop-n.p.head c.loop-n.p.taken (rw c.wanted.ensures.value at asked) in
-    let grown = grows 0 (taken c.loop-n.p c.loop-n.memory) (take c.in-Bytes.n c.read-next.new.buffer) (rw given.counts.1 at given.some) more in
-    omega (arith, grown, ap (λ (t : Taken). t.state.taken) c.take-p.ensures, c.wanted.ensures.result_bound asked)
+    let come : 0 < length (take read.n c.read.new.buffer) = omega (arith, given.1.1) in
+    let grown = grows 0 (taken c.loop-n.p c.loop-n.memory) (take read.n c.read.new.buffer) come more in
+    omega (arith, grown, ap (λ (t : Taken). t.state.taken) c.take.ensures, c.wanted.ensures.result_bound asked)
 
 pub loop-n-preserved : goal.loop-n-preserved
-loop-n-preserved c = by_part c.loop-n.p c.take-p.result c.loop-n.memory _ (take c.in-Bytes.n c.read-next.new.buffer) c.loop-n.invariant c.take-p.ensures
+loop-n-preserved c = by_part c.loop-n.p c.take.new.self c.loop-n.memory _ (take c.in-Ok-1-to-max.n c.read.new.buffer) c.loop-n.invariant c.take.ensures

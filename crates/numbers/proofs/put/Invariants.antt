@@ -1,11 +1,7 @@
--- `numbers::put` meets its contract.
-use lib.Seq.{sets}
+-- `numbers::put` meets its contract: the bytes so far, then those of what is left.
+use Rattle.std.proofs.Common.{◌≡◌, ◌++◌, ◌-◌, take}
 use Rattle.numbers.specs.Numbers.{little}
-use Rattle.numbers.proofs.Putting.{Filling}
 use Rattle.numbers.proofs.put.Given as goal
 
-abbrev pub invariant-loop-left : goal.invariant-loop-left
-invariant-loop-left l = Filling (sets l.initial.out l.at (little l.n l.x)) l.out l.place (little l.left l.rest)
-
-abbrev pub decreases-loop-left : goal.decreases-loop-left
-decreases-loop-left l = l.left
+abbrev pub invariant-loop-b : goal.invariant-loop-b
+invariant-loop-b l = take l.b-index l.b-items ++ little (l.n - l.b-index) l.rest ≡ little l.n l.x

@@ -1,13 +1,10 @@
 -- `trace_writer::put_writes` meets its contract.
-use Prim.Native.Nat.{◌+◌, ◌-◌, ◌*◌}
+use Prim.Native.Nat.{◌+◌, ◌*◌}
+use lib.ListN.{drop}
 use lib.Seq.{sets}
 use Rattle.numbers.proofs.Putting.{Filling}
 use Rattle.trace_format.specs.Format.{write_size, write_bytes}
-use Rattle.trace_writer.specs.Writing.{given, given_from}
 use Rattle.trace_writer.proofs.put_writes.Given as goal
 
 abbrev pub invariant-loop-i : goal.invariant-loop-i
-invariant-loop-i l = Filling (sets l.initial.out l.at (write_bytes (given l.count l.offsets l.values))) l.out (l.at + write_size * l.i) (write_bytes (given_from l.offsets l.values l.i (l.count - l.i)))
-
-abbrev pub decreases-loop-i : goal.decreases-loop-i
-decreases-loop-i l = l.count - l.i
+invariant-loop-i l = Filling (sets l.initial.out l.at (write_bytes l.writes)) l.out (l.at + write_size * l.i) (write_bytes (drop l.i l.writes))

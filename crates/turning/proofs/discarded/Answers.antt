@@ -1,7 +1,8 @@
 -- `turning::discarded` meets its contract. Assumes nothing.
-use Rattle.buffers.specs.Turns.{discarded}
+use mathlib.Core.Path.{refl}
+use Rattle.buffers.specs.Turns.{discarded, with_tags, with_turn}
 use Rattle.turning.proofs.discarded.Goals as goal
 
 pub returns : goal.returns
-unfolding discarded
-returns c = rw (← c.with_tags.ensures, ← c.with_turn.ensures)
+unfolding discarded with_tags with_turn
+returns c = refl

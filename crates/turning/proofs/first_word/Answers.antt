@@ -6,6 +6,6 @@ pub returns-then-t : goal.returns-then-t
 unfolding first_word with_turn
 returns-then-t c = rw c.if-t.true
 
-pub returns : goal.returns
+pub returns-else-t : goal.returns-else-t
 unfolding first_word with_turn
-returns c = rw (c.if-t.false, ← c.other.ensures, ← c.with_turn.ensures)
+returns-else-t c = rw (c.if-t.false, ← c.other.ensures, ← c.with_turn.ensures)

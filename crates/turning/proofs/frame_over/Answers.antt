@@ -12,6 +12,6 @@ returns-then-is_landing c = rw (
   ← c.with_latest.ensures,
 )
 
-pub returns : goal.returns
+pub returns-else-is_landing : goal.returns-else-is_landing
 unfolding frame_over
-returns c = rw (← c.known.ensures, ← c.is_landing.ensures, c.if-is_landing.false)
+returns-else-is_landing c = rw (← c.known.ensures, ← c.is_landing.ensures, c.if-is_landing.false)

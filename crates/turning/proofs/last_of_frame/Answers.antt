@@ -7,6 +7,6 @@ pub returns-then-held-gt0 : goal.returns-then-held-gt0
 unfolding last_of_frame oldest_opens
 returns-then-held-gt0 c = rw (lt-ltb _ _ c.if-held-gt0.true, ← c.oldest_opens.ensures)
 
-pub returns : goal.returns
+pub returns-else-held-gt0 : goal.returns-else-held-gt0
 unfolding last_of_frame oldest_opens
-returns c = rw (le-ltb _ _ c.if-held-gt0.false)
+returns-else-held-gt0 c = rw (le-ltb _ _ c.if-held-gt0.false)

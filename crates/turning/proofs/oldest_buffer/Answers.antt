@@ -8,6 +8,6 @@ pub returns-then-t-eq1 : goal.returns-then-t-eq1
 unfolding oldest_buffer
 returns-then-t-eq1 c = rw (div-one, eq-eqb _ _ c.if-t-eq1.true)
 
-pub returns : goal.returns
+pub returns-else-t-eq1 : goal.returns-else-t-eq1
 unfolding oldest_buffer
-returns c = rw (div-one, ne_eqb _ _ c.if-t-eq1.false)
+returns-else-t-eq1 c = rw (div-one, ne_eqb _ _ c.if-t-eq1.false)

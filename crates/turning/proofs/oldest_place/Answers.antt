@@ -11,7 +11,7 @@ unfolding oldest_place
 returns-in-A c = rw (
   ← c.oldest_opens.ensures,
   c.if-oldest_opens.false,
-  ← c.oldest_buffer-u.ensures,
+  ← c.oldest_buffer.ensures,
   c.in-A.is,
 )
 
@@ -20,6 +20,6 @@ unfolding oldest_place
 returns-in-B c = rw (
   ← c.oldest_opens.ensures,
   c.if-oldest_opens.false,
-  ← c.oldest_buffer-u.ensures,
+  ← c.oldest_buffer.ensures,
   c.in-B.is,
 )

@@ -1,11 +1,6 @@
 -- `turning::word_landed` meets its contract. Assumes nothing.
-use borrow.Author.Rules.{rules}
 use Rattle.buffers.specs.Turns.{word_landed}
 use Rattle.turning.proofs.word_landed.Goals as goal
-
-pub overflow_sub-held : goal.overflow_sub-held
-unfolding word_landed
-overflow_sub-held c = search rules
 
 pub returns-then-last_of_frame : goal.returns-then-last_of_frame
 unfolding word_landed
@@ -19,9 +14,9 @@ returns-then-last_of_frame c = rw (
   ← c.frame_over.ensures,
 )
 
-pub returns : goal.returns
+pub returns-else-last_of_frame : goal.returns-else-last_of_frame
 unfolding word_landed
-returns c = rw (
+returns-else-last_of_frame c = rw (
   ← c.oldest_buffer-u.ensures,
   ← c.oldest_opens.ensures,
   ← c.opened.ensures,

@@ -1,19 +1,15 @@
 -- `two_buffers::after_events` meets its contract. Assumes nothing.
 use mathlib.Core.Path.{ap}
 use Rattle.buffers.specs.Kept.{Kept}
-use Rattle.output.specs.Answers.{packing, landing}
 use Rattle.two_buffers.specs.Answers.{kept, turned}
 use Rattle.two_buffers.proofs.Closing.{events_in_turn}
 use Rattle.two_buffers.proofs.after_events.Goals as goal
-
-pub after_word-worded-requires : goal.after_word-worded-requires
-after_word-worded-requires c = λ v e. rw c.after_landing-landed.ensures (c.requires.by_index v e)
 
 pub returns : goal.returns
 unfolding turned
 returns c = let a = c.args in
     let last =
-    events_in_turn a.s a.w a.core (landing a.landing) (packing a.packing) (kept a.k)
+    events_in_turn a.s a.w a.core a.answer (kept a.k)
     c.after_landing-landed.ensures
     c.after_word-worded.ensures
     c.error_at.ensures

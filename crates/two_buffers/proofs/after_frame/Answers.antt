@@ -1,15 +1,17 @@
 -- `two_buffers::after_frame` meets its contract. Assumes nothing.
+use borrow.Author.Tests.{tests}
+use Rattle.std.proofs.Common.{rules}
 use Rattle.buffers.specs.Kept.{keep, keeps}
 use Rattle.two_buffers.proofs.after_frame.Goals as goal
 
 pub returns-then-error : goal.returns-then-error
 unfolding keep keeps
-returns-then-error c = rw (c.if-error.true, ← c.discarded-turns.ensures)
+returns-then-error c = search (rules, tests)
 
 pub returns-then-ended : goal.returns-then-ended
 unfolding keep keeps
-returns-then-ended c = rw (c.if-error.false, c.if-ended.true, ← c.frame_ended-turns.ensures)
+returns-then-ended c = search (rules, tests)
 
-pub returns : goal.returns
-unfolding keeps
-returns c = rw (c.if-error.false, c.if-ended.false)
+pub returns-else-ended : goal.returns-else-ended
+unfolding keep keeps
+returns-else-ended c = search (rules, tests)

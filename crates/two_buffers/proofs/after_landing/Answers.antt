@@ -1,22 +1,17 @@
 -- `two_buffers::after_landing` meets its contract. Assumes nothing.
-use borrow.Author.Tests.{le-ltb, lt-ltb}
+use borrow.Author.Tests.{tests}
+use Rattle.std.proofs.Common.{rules}
 use Rattle.buffers.specs.Kept.{keep, keeps}
 use Rattle.two_buffers.proofs.after_landing.Goals as goal
 
-pub returns-then-k-gt0 : goal.returns-then-k-gt0
+pub returns-in-Some : goal.returns-in-Some
 unfolding keep keeps
-returns-then-k-gt0 c = rw (
-  c.in-At.is,
-  lt-ltb _ _ c.if-k-gt0.true,
-  ← c.oldest_buffer.ensures,
-  ← c.oldest_place.ensures,
-  ← c.landed_at.ensures,
-)
+returns-in-Some c = search (rules, tests)
 
-pub returns-in-Nowhere : goal.returns-in-Nowhere
-unfolding keeps
-returns-in-Nowhere c = rw c.in-Nowhere.is
-
-pub returns-else-k-gt0 : goal.returns-else-k-gt0
+pub returns-in_default : goal.returns-in_default
 unfolding keep keeps
-returns-else-k-gt0 c = rw (c.in-At.is, le-ltb _ _ c.if-k-gt0.false)
+returns-in_default c = search (rules, tests)
+
+pub returns-in_default-2 : goal.returns-in_default-2
+unfolding keep keeps
+returns-in_default-2 c = search (rules, tests)

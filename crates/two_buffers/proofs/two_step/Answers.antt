@@ -1,7 +1,6 @@
 -- `two_buffers::two_step` meets its contract. Assumes nothing.
 use mathlib.Core.Path.{◌≡◌, sym, ap, ◌∙◌}
 use native.Mathlib.Omega.{arith}
-use Rattle.output.specs.Answers.{landing, packing}
 use Rattle.output.specs.Output.{with_place}
 use Rattle.rules.specs.Run.{Stepped}
 use Rattle.board_rules.specs.TwoBuffers.{Pair, part}
@@ -23,11 +22,11 @@ after_events-after-requires c = let x = two c.args.d c.args.slots.now c.args.a.n
     let tags = asks_tags x c.requires.well_formed c.requires.turns_ok c.requires.laid c.args.w in
     let left = c.steps_in-core in
     let lent : Pair = pair left.new.a left.new.b in
-    let after : Stepped = record { device = record { core = left.result; slots = left.new.slots }; buffer = part c.oldest_buffer-u.result lent; landing = landing c.noted_landing-landing.result; packed = packing c.noted_packing-packing.result } in
+    let after : Stepped = record { device = record { core = left.result; slots = left.new.slots }; buffer = part c.oldest_buffer-u.result lent; landing = left.new.answer.landing; packed = left.new.answer.packed } in
     let is : after ≡ inner (two c.args.d c.args.slots.now c.args.a.now c.args.b.now) c.args.w =
     answers (two c.args.d c.args.slots.now c.args.a.now c.args.b.now) c.args.w
-    (noted left.result left.new.slots (part c.oldest_buffer-u.result lent) left.new.landings left.new.words)
-    c.oldest_buffer-u.ensures c.oldest_place.ensures c.placed-core.ensures left.ensures.words_after c.noted_landing-landing.ensures c.noted_packing-packing.ensures in
+    (noted left.result left.new.slots (part c.oldest_buffer-u.result lent) left.new.answer)
+    c.oldest_buffer-u.ensures c.oldest_place.ensures c.placed-core.ensures c.no_answer-answer.ensures left.ensures.answer_after in
     record { capture_ok = more_lines (omega (arith, c.requires.samples_bound)) c.requires.well_formed.capture; turns_bound = low; by_index = λ v e. rw (ap (λ (r : Stepped). r.landing) is) (tags v (sym (ap (λ (r : Stepped). r.packed) is) ∙ e)) }
 
 pub returns : goal.returns
@@ -36,10 +35,10 @@ returns c = let a = c.args in
     let u = c.oldest_buffer-u in
     let left = c.steps_in-core in
     let lent : Pair = pair left.new.a left.new.b in
-    let after : Stepped = record { device = record { core = left.result; slots = left.new.slots }; buffer = part c.oldest_buffer-u.result lent; landing = landing c.noted_landing-landing.result; packed = packing c.noted_packing-packing.result } in
+    let after : Stepped = record { device = record { core = left.result; slots = left.new.slots }; buffer = part c.oldest_buffer-u.result lent; landing = left.new.answer.landing; packed = left.new.answer.packed } in
     let is : after ≡ inner (two c.args.d c.args.slots.now c.args.a.now c.args.b.now) c.args.w =
     answers (two c.args.d c.args.slots.now c.args.a.now c.args.b.now) c.args.w
-    (noted left.result left.new.slots (part c.oldest_buffer-u.result lent) left.new.landings left.new.words)
-    c.oldest_buffer-u.ensures c.oldest_place.ensures c.placed-core.ensures left.ensures.words_after c.noted_landing-landing.ensures c.noted_packing-packing.ensures in
+    (noted left.result left.new.slots (part c.oldest_buffer-u.result lent) left.new.answer)
+    c.oldest_buffer-u.ensures c.oldest_place.ensures c.placed-core.ensures c.no_answer-answer.ensures left.ensures.answer_after in
     rw (c.after_events-after.ensures, c.in_buffer.ensures)
     (one_step (two a.d a.slots.now a.a.now a.b.now) a.w u.result after lent u.ensures is c.steps_in-core.ensures.b_after)

@@ -1,11 +1,15 @@
 -- `board::handing_back::hand_back` meets its contract. Assumes nothing.
+use Rattle.std.proofs.lemmas.Result.{err_from_is_err_and}
+use Rattle.board_rules.specs.HandingBack.{handed_part}
 use Rattle.board.specs.Answers.{both}
 use Rattle.board.proofs.HandedParts.{named}
 use Rattle.board.proofs.handing_back.hand_back.Goals as goal
 
-pub part_of-requires : goal.part_of-requires
-part_of-requires c = let a = c.args in
-    rw c.latest_frame-handed.ensures (named a.b (both a.memory_a.now a.start_a a.memory_b.now a.start_b))
+pub part_of-part-requires : goal.part_of-part-requires
+part_of-part-requires c = let a = c.args in
+    rw (rw c.in_ok-frame.was at c.latest_frame.ensures) (named a.b (both a.memory_a.now a.start_a a.memory_b.now a.start_b))
 
-pub returns : goal.returns
-returns c = record { answer_after = rw (c.told.ensures, c.latest_frame-handed.ensures); result_value = rw (c.part_of.ensures, c.latest_frame-handed.ensures) }
+pub returns-in_err-frame-clause-part : goal.returns-in_err-frame-clause-part
+unfolding handed_part
+returns-in_err-frame-clause-part c = let p = err_from_is_err_and c.from_residual.result c.from_residual.ensures.1 in
+    rw (p.1, ← (rw c.in_err-frame.was at c.latest_frame.ensures))

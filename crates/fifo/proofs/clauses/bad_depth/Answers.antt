@@ -7,6 +7,6 @@ pub returns-then-depth-eq0 : goal.returns-then-depth-eq0
 unfolding bad_depth
 returns-then-depth-eq0 c = rw (eq-eqb _ _ c.if-depth-eq0.true)
 
-pub returns : goal.returns
+pub returns-else-depth-eq0 : goal.returns-else-depth-eq0
 unfolding bad_depth
-returns c = rw (ne_eqb _ _ c.if-depth-eq0.false)
+returns-else-depth-eq0 c = rw (ne_eqb _ _ c.if-depth-eq0.false)

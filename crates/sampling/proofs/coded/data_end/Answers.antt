@@ -1,9 +1,10 @@
 -- `sampling::coded::data_end` meets its contract. Assumes nothing.
-use mathlib.Core.Path.{sym, ◌∙◌}
+use lib.ListN.{drop, length-drop}
+use native.Mathlib.Omega.{arith}
+use Rattle.fifo.proofs.Tail.{tail_part}
+use Rattle.sampling.proofs.DataBytes.{run_within}
 use Rattle.sampling.proofs.coded.data_end.Goals as goal
 
-pub returns-then-none_waits : goal.returns-then-none_waits
-returns-then-none_waits c = rw (sym c.none_waits.ensures ∙ c.if-none_waits.true) c.next_begin.ensures
-
-pub returns : goal.returns
-returns c = rw (sym c.none_waits.ensures ∙ c.if-none_waits.false)
+pub overflow_add-result : goal.overflow_add-result
+overflow_add-result c =
+    omega (arith, rw tail_part at c.data_run.ensures, c.requires, c.well_formed, rw length-drop at (run_within (drop c.args.first c.args.samples.now)))

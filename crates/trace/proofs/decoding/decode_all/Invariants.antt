@@ -1,13 +1,9 @@
 -- `trace::decoding::decode_all` meets its contract: the samples so far stand at the front of the array.
-use Prim.Native.Nat.{◌-◌, ◌≤◌}
-use lib.ListN.{drop}
+use Rattle.std.proofs.Common.{◌≡◌, ◌/◌, length, take}
 use lib.Seq.{sets}
-use mathlib.Core.Path.{◌≡◌}
+use Rattle.trace_format.specs.Format.{sample_size}
 use Rattle.trace.specs.Decoding.{samples_in}
 use Rattle.trace.proofs.decoding.decode_all.Given as goal
 
 abbrev pub invariant-loop-i : goal.invariant-loop-i
-invariant-loop-i l = (l.i ≤ l.n) × (l.array ≡ sets l.initial.array 0 (samples_in l.i (drop l.at l.bytes)))
-
-abbrev pub decreases-loop-i : goal.decreases-loop-i
-decreases-loop-i l = l.n - l.i
+invariant-loop-i l = l.array ≡ sets l.initial.array 0 (take (length l.yielded) (samples_in (length l.bytes / sample_size) l.bytes))

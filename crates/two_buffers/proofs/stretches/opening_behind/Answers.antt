@@ -1,16 +1,13 @@
 -- `two_buffers::stretches::opening_behind` meets its contract. Assumes nothing.
-use lib.Dec.{lit<}
-use lib.Pow.{shl_exact}
-use mathlib.Core.Path.{◌∙◌}
-use native.Mathlib.Nat.{one-mul}
-use native.Mathlib.Omega.{arith}
+use borrow.Author.Tests.{tests}
+use Rattle.std.proofs.Common.{rules}
 use Rattle.two_buffers.specs.Stretches.{opening_behind}
 use Rattle.two_buffers.proofs.stretches.opening_behind.Goals as goal
 
 pub returns-then-begun : goal.returns-then-begun
 unfolding opening_behind
-returns-then-begun c = rw c.if-begun.true
+returns-then-begun c = search (rules, tests)
 
-pub returns : goal.returns
+pub returns-else-begun : goal.returns-else-begun
 unfolding opening_behind
-returns c = rw c.if-begun.false (shl_exact {a = 1} 1 c.args.before 32 (lit< tt) (omega (arith, c.requires)) ∙ one-mul _)
+returns-else-begun c = search (rules, tests)

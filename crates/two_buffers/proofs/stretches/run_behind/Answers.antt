@@ -18,16 +18,16 @@ pub turns_behind-turns-requires : goal.turns_behind-turns-requires
 turns_behind-turns-requires c = let x = two c.args.d c.args.slots.now c.args.a.now c.args.b.now in
     let left = c.steps_in-core in
     let lent : Pair = pair left.new.a left.new.b in
-    let after : Noted = noted left.result left.new.slots (part c.oldest_buffer-u.result lent) left.new.landings left.new.words in
-    (run_held x c.requires.laid c.args.samples.now _ _ after c.oldest_buffer-u.ensures c.oldest_place.ensures c.placed-core.ensures c.steps_in-core.ensures.words_after, c.requires.turns_ok.buffers, c.requires.turns_ok.opening)
+    let after : Noted = noted left.result left.new.slots (part c.oldest_buffer-u.result lent) left.new.answer in
+    (run_held x c.requires.laid c.args.samples.now _ after c.oldest_buffer-u.ensures c.oldest_place.ensures c.placed-core.ensures c.steps_in-core.ensures.answer_after, c.requires.turns_ok.buffers, c.requires.turns_ok.opening)
 
 pub returns : goal.returns
 unfolding placed
 returns c = let x = two c.args.d c.args.slots.now c.args.a.now c.args.b.now in
     let left = c.steps_in-core in
     let lent : Pair = pair left.new.a left.new.b in
-    let after : Noted = noted left.result left.new.slots (part c.oldest_buffer-u.result lent) left.new.landings left.new.words in
+    let after : Noted = noted left.result left.new.slots (part c.oldest_buffer-u.result lent) left.new.answer in
     rw c.placed.ensures
-    (behind_run x c.requires.well_formed c.requires.turns_ok c.requires.laid c.args.samples.now c.requires.lasts _ _ after lent c.requires.b_value
+    (behind_run x c.requires.well_formed c.requires.turns_ok c.requires.laid c.args.samples.now c.requires.lasts _ after lent c.requires.b_value
     c.oldest_buffer-u.ensures c.oldest_place.ensures c.placed-core.ensures
-    c.steps_in-core.ensures.words_after c.steps_in-core.ensures.b_after c.turns_behind-turns.ensures)
+    c.steps_in-core.ensures.answer_after c.steps_in-core.ensures.b_after c.turns_behind-turns.ensures)

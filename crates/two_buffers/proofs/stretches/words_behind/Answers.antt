@@ -1,5 +1,7 @@
 -- `two_buffers::stretches::words_behind` meets its contract. Assumes nothing.
+use borrow.Author.Tests.{tests}
 use native.Mathlib.Omega.{arith}
+use Rattle.std.proofs.Common.{rules}
 use Rattle.two_buffers.specs.Stretches.{words_behind}
 use Rattle.two_buffers.proofs.Behind.{tags_sub, tags_fit, opening_fit}
 use Rattle.two_buffers.proofs.stretches.words_behind.Goals as goal
@@ -15,10 +17,4 @@ overflow_add-t-2 c = omega (arith, opening_fit _ _ _ c.opening_behind.ensures (o
 
 pub returns : goal.returns
 unfolding words_behind
-returns c = rw (
-  ← c.first_word-s.ensures,
-  ← c.tags_in.ensures,
-  ← c.tags_in-2.ensures,
-  ← c.opening_behind.ensures,
-)
-    c.with_tags.ensures
+returns c = search (rules, tests)

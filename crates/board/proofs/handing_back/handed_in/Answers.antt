@@ -1,8 +1,0 @@
--- `board::handing_back::handed_in` meets its contract. Assumes nothing.
-use Rattle.board.proofs.handing_back.handed_in.Goals as goal
-
-pub returns-in-A : goal.returns-in-A
-returns-in-A c = rw c.in-A.is c.handed_from.ensures
-
-pub returns-in-B : goal.returns-in-B
-returns-in-B c = rw c.in-B.is c.handed_from-in-B.ensures

@@ -1,8 +1,0 @@
--- `coded_capture::none_released` meets its contract. Assumes nothing.
-use borrow.Author.Rules.{rules}
-use Rattle.rules.specs.Capture.{no_word}
-use Rattle.coded_capture.proofs.none_released.Goals as goal
-
-pub returns : goal.returns
-unfolding no_word
-returns c = search rules

@@ -1,7 +1,0 @@
--- `numbers::byte` meets its contract.
-use lib.ListN.{get_or-eq_default}
-use mathlib.Core.Path.{sym}
-use Rattle.numbers.proofs.byte.Goals as goal
-
-pub returns : goal.returns
-returns c = sym (get_or-eq_default c.args.bytes.now 0 c.if-at-bytes.false)

@@ -1,0 +1,8 @@
+-- `sampling::kinds::ByCodes` meets the contract of its kind. Assumes nothing.
+use mathlib.Core.Path.{ap}
+use Rattle.laws.proofs.Sampled.{sample_ok}
+use Rattle.rules.specs.Capture.{Captured}
+use Rattle.sampling.proofs.kinds.ByCodesKind.after_grant.Goals as goal
+
+pub complete_coded-requires-clause-ris_bound : goal.complete_coded-requires-clause-ris_bound
+complete_coded-requires-clause-ris_bound c = (rw (ap (λ (x : Captured). x.state) c.coded_sample.ensures) (sample_ok c.args.w c.requires.capture_ok).ris, c.requires.counts_bound.0, c.requires.counts_bound.1)
