@@ -23,7 +23,7 @@ fn put_write(out: &mut [u8], at: usize, write: Write)
     put(out, at + 1, 4, write.value);
 }
 
-// The writes, from a byte on. (By index, and the samples too: over `out[at..].chunks_exact_mut(..).zip(..)` an invariant has no buffer to speak of; tried, and not proved.)
+// The writes, from a byte on. (By index, and the samples too: over `out[at..].chunks_exact_mut(..).zip(..)` an invariant has no buffer to speak of; tried for the samples, and not proved.)
 fn put_writes(out: &mut [u8], at: usize, writes: &[Write])
     requires { at + format.write_size * length writes.now ≤ length out.old }
     ensures { out.new ≡ sets out.old at (format.write_bytes writes.now) }
