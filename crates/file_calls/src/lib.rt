@@ -15,9 +15,9 @@ use board_rules::{Board, Mode};
 use board_words::image_of;
 use refusals::Refusal;
 use rules::Device;
-use std::array;
 use trace_format::Write;
 use trace_reader::{Item, read_once};
+use trace_writer::Given;
 
 // The image of a device in mode one.
 fn image_in_one(device: Device) -> [u32; 67]
@@ -58,17 +58,8 @@ pub fn run_file_depth(
     Ok(())
 }
 
-// The writes that two arrays of C give.
-fn writes_of(offsets: &[u8; 255], values: &[u32; 255]) -> [Write; 255]
-    ensures { result ≡ writing.given 255 offsets.now values.now }
-{
-    array::from_fn(|k| Write {
-        offset: offsets[k],
-        value: values[k],
-    })
-}
-
 // A trace file into the lent buffer. C gives the writes as two arrays and a count.
+#[tactic(auto, unfolding(crate::specs::FileCalls::trace_write))]
 pub fn trace_write(
     count: usize,
     offsets: &[u8; 255],
@@ -79,11 +70,12 @@ pub fn trace_write(
 ) -> Result<(), Refusal>
     ensures { file_call_rules.encoded (call_rules.gave (outcome result) length.new) out.new ≡ file_call_rules.trace_write (writing.given count offsets.now values.now) samples.now out.old length.old }
 {
-    let writes = writes_of(offsets, values);
-    if writes.len() < count {
-        return Err(Refusal::WriteCount);
-    }
-    *length = trace_writer::encode(&writes[..count], samples, out)?;
+    let writes = Given {
+        count,
+        offsets,
+        values,
+    };
+    *length = trace_writer::encode(writes, samples, out)?;
     Ok(())
 }
 

@@ -1,6 +1,6 @@
 -- A buffer that is being filled with writes and with samples: what the writer's loops keep. Assumes nothing.
 use mathlib.Core.List.{List, [], ◌++◌}
-use mathlib.Core.Path.{◌≡◌, refl, sym, ◌∙◌}
+use mathlib.Core.Path.{◌≡◌, refl, sym, ap, ◌∙◌}
 use Prim.Native.Nat.{ℕ, ◌+◌, ◌*◌, ◌≤◌, ◌<◌}
 use native.Mathlib.Nat.{zero-add}
 use native.Mathlib.Numerals.{add-one}
@@ -33,16 +33,16 @@ unfolding sample_bytes
 no_samples samples k h = rw (drop_of_length-le samples h)
 
 -- One write further, and one sample.
-pub write_on : (whole out out' : List ℕ) (writes : List Write) (at k : ℕ) (d : Write)
-    → Filling whole out (at + write_size * k) (write_bytes (drop k writes)) → k < length writes
-    → out' ≡ sets out (at + write_size * k) (little 1 (get_or writes k d).offset ++ little 4 (get_or writes k d).value)
+pub write_on : (whole out out' : List ℕ) (writes : List Write) (at k : ℕ) (w : Write)
+    → Filling whole out (at + write_size * k) (write_bytes (drop k writes)) → k < length writes → w ≡ get_or writes k w
+    → out' ≡ sets out (at + write_size * k) (little 1 w.offset ++ little 4 w.value)
     → Filling whole out' (at + write_size * (k + 1)) (write_bytes (drop (k + 1) writes))
-write_on whole out out' writes at k d f h put =
-    let w : Write = get_or writes k d in
+write_on whole out out' writes at k w f h e put =
     let o : List ℕ = little 1 w.offset in
     let v : List ℕ = little 4 w.value in
     let five : length (o ++ v) ≡ write_size = rw (length-append o v, length_little 1 w.offset, length_little 4 w.value) in
-    fill_on whole out out' (at + write_size * k) (at + write_size * (k + 1)) _ (o ++ v) _ f (first_write writes k d h) put (omega (arith, five))
+    let first : write_bytes (drop k writes) ≡ (o ++ v) ++ write_bytes (drop (k + 1) writes) = first_write writes k w h ∙ sym (ap (λ (x : Write). (little 1 x.offset ++ little 4 x.value) ++ write_bytes (drop (k + 1) writes)) e) in
+    fill_on whole out out' (at + write_size * k) (at + write_size * (k + 1)) _ (o ++ v) _ f first put (omega (arith, five))
 
 pub sample_on : (whole out out' samples : List ℕ) (at k : ℕ)
     → Filling whole out (at + sample_size * k) (sample_bytes (drop k samples)) → k < length samples

@@ -1,3 +1,4 @@
 pub mod Filling
 pub mod RoundTrips
+pub mod TwoArrays
 pub mod WriterSheet
