@@ -1,7 +1,7 @@
 -- The samples of an accepted file, stretch by stretch: what is left leads to the same end as all of them.
 use mathlib.Core.Bool.{Bool, true, false, cond}
 use mathlib.Core.List.{List, [], ◌∷◌, ◌++◌}
-use mathlib.Core.Path.{◌≡◌, refl, ap, ◌∙◌}
+use mathlib.Core.Path.{◌≡◌, refl, sym, ap, ◌∙◌}
 use Prim.Native.Nat.{ℕ, zero, suc, ◌+◌, ◌-◌, ◌*◌, ◌/◌, ◌≤◌, ◌<◌, ◌^◌}
 use native.Mathlib.Nat.{zero-add, suc-add}
 use native.Mathlib.Omega.{arith}
@@ -180,3 +180,46 @@ module _ {f buffer₀ : List ℕ} {d₀ : Device} {buffer : List ℕ} {d : Devic
       go (Ok (suc n)) m none e = absurd (omega (arith, none (suc n) refl))
       go (Err x) zero none e = cc
       go (Err x) (suc m) none e = let k = rw (ne_eqb (suc m) 0 (λ z. absurd (omega arith))) at e in cc
+
+  -- And none of what is left is refused.
+  pub never_refused : (r : Result ℕ Refusal) (x : Refusal) → samples r ≡ samples_at rest 0 256 (length array) → r ≡ Err x → ⊥
+  never_refused r x told is = go next (sym (ap samples is) ∙ told ∙ told_next)
+    where
+      go : (m : ℕ) → samples (Err x) ≡ cond (eqb m 0) the_end (many m) → ⊥
+      go zero e = cc
+      go (suc m) e = let k = rw (ne_eqb (suc m) 0 (λ z. absurd (omega arith))) at e in cc
+
+-- Before the last sample of an accepted file the reader gives some: neither the end nor a refusal.
+module _ (f : List ℕ) (k : ℕ) (array : List ℕ) (room : length array ≡ 256) (accepted : file_refusal f ≡ 0) (inside : k < sample_count f) where
+  abbrev some_next : ℕ
+  some_next = how_many f (sample_start f k) (sample_count f - k) (length array)
+
+  some_fits : (0 < some_next) × (some_next ≤ sample_count f - k)
+  unfolding how_many
+  some_fits =
+      let exact : length f ≡ whole f = (formed f (length f) (accepted_file f accepted).0).exact in
+      (omega (arith, room, exact), omega (arith, room, exact))
+
+  some_good : any_bad (samples_in some_next (drop (sample_start f k) f)) ≡ false
+  some_good =
+      let good = (accepted_file f accepted).1 in
+      let all : k + (sample_count f - k) ≡ sample_count f = omega arith in
+      let cut : some_next + (sample_count f - k - some_next) ≡ sample_count f - k = omega (arith, some_fits.1) in
+      let here : sample_start f 0 + sample_size * k ≡ sample_start f k = omega arith in
+      let r = drop (sample_start f 0) f in
+      let of_all : any_bad (samples_in (k + (sample_count f - k)) r) ≡ false = rw (all, samples_here f (sample_count f) 0) good in
+      let later = (parted (samples_in k r) (samples_in (sample_count f - k) (drop (sample_size * k) r)) (rw (samples_in_append k (sample_count f - k) r) at of_all)).1 in
+      let from_k : any_bad (samples_in (some_next + (sample_count f - k - some_next)) (drop (sample_start f k) f)) ≡ false = rw (cut, ← here, ← drop-drop (sample_size * k) (sample_start f 0) f) later in
+      (parted (samples_in some_next (drop (sample_start f k) f)) (samples_in (sample_count f - k - some_next) (drop (sample_size * some_next) (drop (sample_start f k) f))) (rw (samples_in_append some_next (sample_count f - k - some_next) (drop (sample_start f k) f)) at from_k)).0
+
+  some_told : samples_at f (sample_start f k) (sample_count f - k) (length array) ≡ many some_next
+  unfolding samples_at
+  some_told = rw (ne_eqb some_next 0 (λ z. absurd (omega (arith, some_fits.0))), some_good)
+
+  pub only_samples : (r : Result ℕ Refusal) → samples r ≡ samples_at f (sample_start f k) (sample_count f - k) (length array) → ((n : ℕ) → 0 < n → r ≡ Ok n → ⊥) → ⊥
+  only_samples r e kind = go r kind (e ∙ some_told)
+    where
+      go : (r : Result ℕ Refusal) → ((n : ℕ) → 0 < n → r ≡ Ok n → ⊥) → samples r ≡ many some_next → ⊥
+      go (Ok zero) kind e = cc
+      go (Ok (suc n)) kind e = kind (suc n) (omega arith) refl
+      go (Err x) kind e = cc
