@@ -17,7 +17,7 @@ use refusals::Refusal;
 use rules::Device;
 use trace_format::Write;
 use trace_reader::{Item, read_once};
-use trace_writer::Given;
+use trace_writer::{Given, encode_from};
 
 // The image of a device in mode one.
 fn image_in_one(device: Device) -> [u32; 67]
@@ -75,7 +75,7 @@ pub fn trace_write(
         offsets,
         values,
     };
-    *length = trace_writer::encode(writes, samples, out)?;
+    *length = encode_from(writes, samples, out)?;
     Ok(())
 }
 

@@ -14,8 +14,8 @@ use refusals::Refusal;
 use samples::any_bad;
 use trace_format::{SAMPLE_SIZE, WRITE_SIZE, Write, header_for, put_header};
 
-// The writes of a file that is to be written, however they are kept. `encode`, which asks nothing of its callers, asks for each of at most 255 once, in order, where it accepts all: so no
-// list is made of what C gives as two arrays, and none of their entries behind the count is read.
+// The writes of a file that is to be written, however they are kept. `encode_from`, which asks nothing of its callers, asks for each of at most 255 once, in order, where it accepts all: so
+// no list is made of what C gives as two arrays, and none of their entries behind the count is read.
 pub trait Writes: Copy {
     // The list.
     ghost list: { Self → List Write };
@@ -107,10 +107,10 @@ fn put_file<W: Writes>(out: &mut [u8], writes: W, samples: &[u32])
     put_samples(out, header + WRITE_SIZE * count, samples);
 }
 
-// A trace file of the writes and the samples, in the version that the number of samples says: its length, or a refusal, 14, 12, 7 or 15. Refused, every byte of the buffer
-// stays; accepted, the bytes after the file stay.
+// A trace file of the writes, however they are kept, and the samples, in the version that the number of samples says: its length, or a refusal, 14, 12, 7 or 15. Refused, every byte of the
+// buffer stays; accepted, the bytes after the file stay.
 #[tactic(auto, using(trace_format::proofs::ReadBack::length_encode, numbers::proofs::Putting::put_over), unfolding(crate::specs::Writing::write, crate::specs::Writing::writer_refusal))]
-pub fn encode<W: Writes>(writes: W, samples: &[u32], out: &mut [u8]) -> Result<usize, Refusal>
+pub fn encode_from<W: Writes>(writes: W, samples: &[u32], out: &mut [u8]) -> Result<usize, Refusal>
     ensures { writer_answers.written result out.new ≡ writing.write (W.list writes) samples.now out.old }
 {
     let count = writes.count();
@@ -130,4 +130,11 @@ pub fn encode<W: Writes>(writes: W, samples: &[u32], out: &mut [u8]) -> Result<u
     }
     put_file(out, writes, samples);
     Ok(length)
+}
+
+// The same of a slice of writes.
+pub fn encode(writes: &[Write], samples: &[u32], out: &mut [u8]) -> Result<usize, Refusal>
+    ensures { writer_answers.written result out.new ≡ writing.write writes.now samples.now out.old }
+{
+    encode_from(writes, samples, out)
 }
