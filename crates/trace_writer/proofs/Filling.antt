@@ -33,15 +33,15 @@ unfolding sample_bytes
 no_samples samples k h = rw (drop_of_length-le samples h)
 
 -- One write further, and one sample.
-pub write_on : (whole out out' : List ℕ) (writes : List Write) (at k : ℕ) (w : Write)
-    → Filling whole out (at + write_size * k) (write_bytes (drop k writes)) → k < length writes → w ≡ get_or writes k w
+pub write_on : (whole out out' : List ℕ) (writes : List Write) (at k : ℕ) (w d : Write)
+    → Filling whole out (at + write_size * k) (write_bytes (drop k writes)) → k < length writes → w ≡ get_or writes k d
     → out' ≡ sets out (at + write_size * k) (little 1 w.offset ++ little 4 w.value)
     → Filling whole out' (at + write_size * (k + 1)) (write_bytes (drop (k + 1) writes))
-write_on whole out out' writes at k w f h e put =
+write_on whole out out' writes at k w d f h e put =
     let o : List ℕ = little 1 w.offset in
     let v : List ℕ = little 4 w.value in
     let five : length (o ++ v) ≡ write_size = rw (length-append o v, length_little 1 w.offset, length_little 4 w.value) in
-    let first : write_bytes (drop k writes) ≡ (o ++ v) ++ write_bytes (drop (k + 1) writes) = first_write writes k w h ∙ sym (ap (λ (x : Write). (little 1 x.offset ++ little 4 x.value) ++ write_bytes (drop (k + 1) writes)) e) in
+    let first : write_bytes (drop k writes) ≡ (o ++ v) ++ write_bytes (drop (k + 1) writes) = first_write writes k d h ∙ sym (ap (λ (x : Write). (little 1 x.offset ++ little 4 x.value) ++ write_bytes (drop (k + 1) writes)) e) in
     fill_on whole out out' (at + write_size * k) (at + write_size * (k + 1)) _ (o ++ v) _ f first put (omega (arith, five))
 
 pub sample_on : (whole out out' samples : List ℕ) (at k : ℕ)

@@ -12,7 +12,7 @@ loop-i-init g c = writes_start _ _ _ c.requires.1
 pub loop-i-preserved : goal.loop-i-preserved
 loop-i-preserved g c =
     let inside : c.loop-i.i < length (g.W.Writes.list c.args.writes) = omega (arith, c.loop-i-test.true, c.count-i-end.ensures) in
-    write_on _ _ _ _ _ _ _ c.loop-i.invariant inside c.nth.ensures c.put_write.ensures
+    write_on _ _ _ _ _ _ _ _ c.loop-i.invariant inside c.nth.ensures c.put_write.ensures
 
 pub returns : goal.returns
 returns g c =
